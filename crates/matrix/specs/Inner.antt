@@ -1,0 +1,26 @@
+-- What the contracts of the crate's own functions cite, beside the definitions that a caller reads. Assumes nothing.
+use Prim.Native.Nat.{ℕ, _+_, _*_, _≤_}
+use mathlib.Core.Path.{_≡_}
+use mathlib.Core.Bool.{cond}
+use mathlib.Core.List.{List}
+use mathlib.Core.Option.{Option, none, some}
+use lib.Dec.{ltb}
+use Rattle.matrix.specs.Run.{run, longest}
+use Rattle.matrix.specs.Search.{first-differing}
+
+-- two runs of n words lie in a table of so many words, and n is 1 to most
+pub record Accepted (most words n a b : ℕ) : Type 0 where
+  pub some-words : 1 ≤ n
+  pub few : n ≤ most
+  pub first : a + n ≤ words
+  pub second : b + n ≤ words
+
+-- a run of n words lies in a table of so many words, n is 1 to the longest, and the position is one of its bits
+pub record Located (words n s p : ℕ) : Type 0 where
+  pub run-accepted : Accepted longest words n s s
+  pub counted : 1 ≤ p
+  pub within : p ≤ 16 * n
+
+-- the position after those passed is the first that differs above a start, or there is none
+abbrev pub Passed : List ℕ → ℕ → ℕ → ℕ → ℕ → ℕ → Type 0
+Passed t a b n above passed = first-differing (run t a n) (run t b n) n above ≡ cond (ltb passed (16 * n)) (some (passed + 1)) none

@@ -1,0 +1,31 @@
+-- AND, OR, XOR and COMP over two matrices of a table (document 01, "One scan"): the destination's bit becomes the operation
+-- on both matrices' bits, both as they were before. Assumes nothing.
+use Prim.Native.Nat.{ℕ}
+use mathlib.Core.Bool.{Bool, not, _&&_, _||_, xor}
+use mathlib.Core.List.{List}
+use lib.ListN.{length}
+use Rattle.bits.specs.declared.Verdict.{Verdict}
+use Rattle.bits.specs.Bit.{bit, matrix}
+use Rattle.matrix.specs.declared.logic.Operation.{Operation}
+use Rattle.matrix.specs.declared.logic.Operation.the-variants.{And, Or, Xor, Comp}
+use Rattle.matrix.specs.Run.{run, placed, longest-whole, fault, verdict, unless}
+
+-- the operation on a bit of the source and the destination's bit at its position
+unfoldable pub combined : Operation → Bool → Bool → Bool
+combined And s d = s && d
+combined Or s d = s || d
+combined Xor s d = xor s d
+combined Comp s d = not s
+
+-- n words from s on are the source, n words from d on the destination
+abbrev pub combine-fault : List ℕ → ℕ → ℕ → ℕ → ℕ
+combine-fault t s d n = fault longest-whole (length t) n s d
+
+abbrev pub combine-verdict : List ℕ → ℕ → ℕ → ℕ → Verdict
+combine-verdict t s d n = verdict (combine-fault t s d n)
+
+unfoldable pub combine-table : Operation → List ℕ → ℕ → ℕ → ℕ → List ℕ
+combine-table operation t s d n =
+    unless (combine-fault t s d n)
+    (placed t d (matrix n (λ p. combined operation (bit (run t s n) p) (bit (run t d n) p))))
+    t

@@ -1,0 +1,38 @@
+-- A matrix moved by one position (document 01, "One scan", BROT): left takes bit 2 into 1, right takes bit 1 into 2. With
+-- wrap the bit that leaves enters at the other end, else 0 enters. Assumes nothing.
+use Prim.Native.Nat.{ℕ, _+_, _-_, _*_}
+use mathlib.Core.Bool.{Bool, cond, _&&_}
+use mathlib.Core.List.{List}
+use lib.Dec.{eqb}
+use lib.ListN.{length}
+use Rattle.bits.specs.Bit.{bit, matrix}
+use Rattle.matrix.specs.declared.answer.Answer.{Answer}
+use Rattle.matrix.specs.declared.answer.Answer.the-variants.{Bit, Refused}
+use Rattle.matrix.specs.Run.{run, placed, longest-whole, fault, verdict, unless}
+
+-- the bit of an n-word matrix that leaves it
+abbrev pub leaving : Bool → List ℕ → ℕ → Bool
+leaving left m n = cond left (bit m 1) (bit m (16 * n))
+
+-- the bit that enters
+abbrev pub entering : Bool → Bool → List ℕ → ℕ → Bool
+entering left wrap m n = wrap && leaving left m n
+
+-- the bit at a position after the move
+unfoldable pub moved : Bool → Bool → List ℕ → ℕ → ℕ → Bool
+moved left wrap m n p =
+    cond left
+    (cond (eqb p (16 * n)) (entering left wrap m n) (bit m (p + 1)))
+    (cond (eqb p 1) (entering left wrap m n) (bit m (p - 1)))
+
+-- n words from s on are the source, n words from d on the destination; the answer is the bit that left
+unfoldable pub move-answer : Bool → List ℕ → ℕ → ℕ → ℕ → Answer
+move-answer left t s d n =
+    unless (fault longest-whole (length t) n s d)
+    (Bit (leaving left (run t s n) n))
+    (Refused (verdict (fault longest-whole (length t) n s d)))
+
+unfoldable pub move-table : Bool → Bool → List ℕ → ℕ → ℕ → ℕ → List ℕ
+unfolding moved
+move-table left wrap t s d n =
+    unless (fault longest-whole (length t) n s d) (placed t d (matrix n (moved left wrap (run t s n) n))) t

@@ -1,0 +1,24 @@
+-- One bit of a matrix, read or put (document 01, "One scan", SENS and MBIT). Assumes nothing.
+use Prim.Native.Nat.{ℕ}
+use mathlib.Core.Bool.{Bool, cond}
+use mathlib.Core.List.{List}
+use lib.Dec.{eqb}
+use lib.ListN.{length}
+use Rattle.bits.specs.declared.Verdict.{Verdict}
+use Rattle.bits.specs.Bit.{bit, matrix}
+use Rattle.matrix.specs.declared.answer.Answer.{Answer}
+use Rattle.matrix.specs.declared.answer.Answer.the-variants.{Bit, Refused}
+use Rattle.matrix.specs.Run.{run, placed, fault-at, verdict, unless}
+
+-- the matrix is the n words from s on
+unfoldable pub read-answer : List ℕ → ℕ → ℕ → ℕ → Answer
+read-answer t s n p =
+    unless (fault-at (length t) n s p) (Bit (bit (run t s n) p)) (Refused (verdict (fault-at (length t) n s p)))
+
+abbrev pub put-verdict : List ℕ → ℕ → ℕ → ℕ → Verdict
+put-verdict t s n p = verdict (fault-at (length t) n s p)
+
+-- every other bit stays as it was
+unfoldable pub put-table : List ℕ → ℕ → ℕ → ℕ → Bool → List ℕ
+put-table t s n p on =
+    unless (fault-at (length t) n s p) (placed t s (matrix n (λ q. cond (eqb q p) on (bit (run t s n) q)))) t

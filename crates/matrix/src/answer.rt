@@ -1,0 +1,7 @@
+use bits::Verdict;
+
+// A bit, or a refusal.
+pub enum Answer {
+    Bit(bool),
+    Refused(Verdict),
+}
