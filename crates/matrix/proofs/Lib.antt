@@ -1,6 +1,11 @@
--- The laws of the definitions, for the proofs here and in the crates above.
+-- The laws of the definitions, for the proofs here and in the crates above; the theorems; the examples.
+pub mod Determined
+pub mod Examples
+pub mod Kept
 pub mod Moving
+pub mod Pointers
 pub mod Refusals
 pub mod Runs
 pub mod Searching
 pub mod Singles
+pub mod Sought

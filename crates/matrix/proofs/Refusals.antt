@@ -17,10 +17,28 @@ pub unless-refused {ℓ} : {X : Type ℓ} (number : ℕ) (done refused : X) → 
 unless-refused number done refused h = ap (λ (b : Bool). cond b done refused) (ne-eqb number 0 h)
 
 -- ---- two runs
-pub fault-none : (most words n a b : ℕ) → Accepted most words n a b → fault most words n a b ≡ 0
-unfolding fault
-fault-none most words n a b h =
-    simp (le-leb 1 n (h .some-words), le-leb n most (h .few), le-leb (a + n) words (h .first), le-leb (b + n) words (h .second))
+module _ (most words n a b : ℕ) where
+  -- the refusals, one test after the other
+  pub fault-empty : n ≡ 0 → fault most words n a b ≡ 5
+  unfolding fault
+  fault-empty e = simp (lt-leb 1 n (omega arith))
+
+  pub fault-long : 1 ≤ n → most < n → fault most words n a b ≡ 5
+  unfolding fault
+  fault-long l u = simp (le-leb 1 n l, lt-leb n most u)
+
+  pub fault-first : 1 ≤ n → n ≤ most → words < a + n → fault most words n a b ≡ 8
+  unfolding fault
+  fault-first l u h = simp (le-leb 1 n l, le-leb n most u, lt-leb (a + n) words h)
+
+  pub fault-second : 1 ≤ n → n ≤ most → a + n ≤ words → words < b + n → fault most words n a b ≡ 8
+  unfolding fault
+  fault-second l u h k = simp (le-leb 1 n l, le-leb n most u, le-leb (a + n) words h, lt-leb (b + n) words k)
+
+  pub fault-none : Accepted most words n a b → fault most words n a b ≡ 0
+  unfolding fault
+  fault-none h =
+      simp (le-leb 1 n (h .some-words), le-leb n most (h .few), le-leb (a + n) words (h .first), le-leb (b + n) words (h .second))
 
 four : (w x y z : Bool) → _≡_ {A = ℕ} (cond (w && x) (cond (y && z) 0 8) 5) 0 → (w ≡ true) × (x ≡ true) × (y ≡ true) × (z ≡ true)
 four true true true true e = (refl, refl, refl, refl)
@@ -56,8 +74,22 @@ located words n s p e =
     let h = three (fault longest words n s s) (leb 1 p) (leb p (16 * n)) e in
     record { run-accepted = accepted longest words n s s (h .0); counted = leb-true 1 p (h .1); within = leb-true p (16 * n) (h .2) }
 
-pub fault-at-none : (words n s p : ℕ) → Located words n s p → fault-at words n s p ≡ 0
-unfolding fault-at
-fault-at-none words n s p h =
-    unless-done (fault longest words n s s) _ _ (fault-none longest words n s s (h .run-accepted))
-    ∙ simp (le-leb 1 p (h .counted), le-leb p (16 * n) (h .within))
+module _ (words n s p : ℕ) where
+  pub fault-at-run : (fault longest words n s s ≡ 0 → ⊥) → fault-at words n s p ≡ fault longest words n s s
+  unfolding fault-at
+  fault-at-run h = unless-refused (fault longest words n s s) (cond (leb 1 p && leb p (16 * n)) 0 8) (fault longest words n s s) h
+
+  fault-at-position : fault longest words n s s ≡ 0 → fault-at words n s p ≡ cond (leb 1 p && leb p (16 * n)) 0 8
+  unfolding fault-at
+  fault-at-position e = unless-done (fault longest words n s s) (cond (leb 1 p && leb p (16 * n)) 0 8) (fault longest words n s s) e
+
+  pub fault-at-zero : fault longest words n s s ≡ 0 → p ≡ 0 → fault-at words n s p ≡ 8
+  fault-at-zero e z = fault-at-position e ∙ simp (lt-leb 1 p (omega arith))
+
+  pub fault-at-past : fault longest words n s s ≡ 0 → 1 ≤ p → 16 * n < p → fault-at words n s p ≡ 8
+  fault-at-past e l u = fault-at-position e ∙ simp (le-leb 1 p l, lt-leb p (16 * n) u)
+
+  pub fault-at-none : Located words n s p → fault-at words n s p ≡ 0
+  fault-at-none h =
+      fault-at-position (fault-none longest words n s s (h .run-accepted))
+      ∙ simp (le-leb 1 p (h .counted), le-leb p (16 * n) (h .within))

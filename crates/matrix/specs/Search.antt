@@ -1,6 +1,8 @@
 -- The first differing position above a start, of two matrices (document 01, "One scan", CMPR). Assumes nothing.
-use Prim.Native.Nat.{ℕ, zero, suc, _-_, _*_}
-use mathlib.Core.Bool.{Bool, cond, xor}
+use Prim.Native.Nat.{ℕ, zero, suc, _-_, _*_, _≤_, _<_}
+use mathlib.Core.Path.{_≡_}
+use mathlib.Core.Logic.{_↔_}
+use mathlib.Core.Bool.{Bool, true, false, cond, xor}
 use mathlib.Core.List.{List}
 use mathlib.Core.Option.{Option, none, some}
 use lib.ListN.{length}
@@ -34,3 +36,28 @@ first-difference t a b n above =
     unless (fault longest-whole (length t) n a b)
     (reported (first-differing (run t a n) (run t b n) n above))
     (Refused (verdict (fault longest-whole (length t) n a b)))
+
+-- ---- what the answer means
+
+-- no position above a start differs
+abbrev pub NoneLater : List ℕ → List ℕ → ℕ → ℕ → Type 0
+NoneLater a b n above = (p : ℕ) → above < p → p ≤ 16 * n → differing a b p ≡ false
+
+-- a position is the first above a start that differs
+pub record FirstLater (a b : List ℕ) (n above p : ℕ) : Type 0 where
+  pub later : above < p
+  pub inside : p ≤ 16 * n
+  pub differs : differing a b p ≡ true
+  pub earlier-agree : (q : ℕ) → above < q → q < p → differing a b q ≡ false
+
+-- the call answers nothing exactly when it is not refused and no later position differs
+abbrev pub NothingMeansNone : Type 0
+NothingMeansNone =
+    (t : List ℕ) (a b n above : ℕ) →
+    (first-difference t a b n above ≡ Nothing) ↔ ((fault longest-whole (length t) n a b ≡ 0) × NoneLater (run t a n) (run t b n) n above)
+
+-- and a position exactly when that is the first later one that differs
+abbrev pub AtMeansFirst : Type 0
+AtMeansFirst =
+    (t : List ℕ) (a b n above p : ℕ) →
+    (first-difference t a b n above ≡ At p) ↔ ((fault longest-whole (length t) n a b ≡ 0) × FirstLater (run t a n) (run t b n) n above p)

@@ -48,10 +48,10 @@ impl Pointer {
         if !is_size(size) {
             return self;
         }
-        if at < size {
-            return self;
+        if size <= at {
+            return Pointer { at: 0, size };
         }
-        Pointer { at: 0, size }
+        self
     }
 
     // As MBIT and SENS increase it: one more, but 16n becomes 1, and over 16n it stays.
