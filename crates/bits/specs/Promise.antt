@@ -21,6 +21,10 @@ module _ {K : Type 0} {A R S : K → Type 0} (Post : (κs : K) → A κs → R �
   DecidesBoth left =
       (κs : K) (a : A κs) (x y : R κs) (s t : S κs) → Post κs a x s → Post κs a y t → (x ≡ y) × (left κs s ≡ left κs t)
 
+  -- of an answer that is a part of what was lent, the contract decides the words
+  abbrev pub DecidesWords : ((κs : K) → R κs → List ℕ) → Type 0
+  DecidesWords words = (κs : K) (a : A κs) (x y : R κs) (s t : S κs) → Post κs a x s → Post κs a y t → words κs x ≡ words κs y
+
   -- and a refusal changes nothing: with an answer that refuses, what is left is what was lent
   abbrev pub Keeps : ((κs : K) → R κs → Type 0) → ((κs : K) → A κs → List ℕ) → ((κs : K) → S κs → List ℕ) → Type 0
   Keeps Refuses lent left = (κs : K) (a : A κs) (x : R κs) (s : S κs) → Post κs a x s → Refuses κs x → left κs s ≡ lent κs a

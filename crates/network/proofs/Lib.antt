@@ -1,0 +1,12 @@
+-- The laws of the definitions.
+pub mod Accepted
+pub mod Determined
+pub mod Examples
+pub mod Faults
+pub mod Kept
+pub mod Networks
+pub mod Parts
+pub mod Reading
+pub mod RoundTrips
+pub mod References
+pub mod Walk

@@ -1,0 +1,26 @@
+-- `network::block::coils_at` meets its contract. Assumes nothing.
+use borrow.Author.Needs.{needs}
+use Rattle.network.proofs.block.coils_at.Statement.{statement}
+use Rattle.network.proofs.block.coils_at.Tie as tie
+
+word-requires : tie.Need-word-requires
+word-requires c κs = search needs
+
+add-word : tie.Need-add-word
+add-word c = search needs
+
+word-requires-2 : tie.Need-word-requires-2
+word-requires-2 c κs = search needs
+
+add-word-2 : tie.Need-add-word-2
+add-word-2 c = search needs
+
+word-requires-3 : tie.Need-word-requires-3
+word-requires-3 c κs = search needs
+
+returns : tie.Need-returns
+returns c = λ i. record { top = c .before .before .word .ensures i; middle = c .before .word2 .ensures i; bottom = c .word3 .ensures i }
+
+pub coils-at-spec : {M : Type 1} → statement M
+coils-at-spec =
+    tie.close (tie.spec word-requires add-word word-requires-2 add-word-2 word-requires-3 returns)

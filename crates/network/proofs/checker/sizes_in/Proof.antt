@@ -1,0 +1,23 @@
+-- `network::checker::sizes_in` meets its contract. Assumes nothing.
+use borrow.Author.Needs.{needs}
+use Rattle.network.proofs.checker.sizes_in.Statement.{statement}
+use Rattle.network.proofs.checker.sizes_in.Tie as tie
+
+word-requires : tie.Need-word-requires
+word-requires c κs = search needs
+
+word-requires-2 : tie.Need-word-requires-2
+word-requires-2 c κs = search needs
+
+word-requires-3 : tie.Need-word-requires-3
+word-requires-3 c κs = search needs
+
+word-requires-4 : tie.Need-word-requires-4
+word-requires-4 c κs = search needs
+
+returns : tie.Need-returns
+returns c = λ i. record { coils = c .before .before .before .word .ensures i; discretes = c .before .before .word2 .ensures i; inputs = c .before .word3 .ensures i; holding = c .word4 .ensures i }
+
+pub sizes-in-spec : {M : Type 1} → statement M
+sizes-in-spec =
+    tie.close (tie.spec word-requires word-requires-2 word-requires-3 word-requires-4 returns)

@@ -1,0 +1,71 @@
+-- `network::fault::judged` meets its contract. The loop keeps that the first refusal from here on is the first of all. Assumes nothing.
+use borrow.Author.Needs.{needs}
+use native.Mathlib.Omega.{arith}
+use mathlib.Core.Path.{_≡_, refl, sym, ap, _∙_}
+use Prim.Native.Nat.{ℕ, suc, _+_, _-_, _*_, _≤_, _<_}
+use native.Mathlib.Nat.{add-sub-cancel-left}
+use Rattle.network.specs.Fault.{word-fault}
+use Rattle.network.specs.Check.{seek, judged}
+use Rattle.network.proofs.Walk.{Reached, begun, stop-missing, stop-fault, go-on, passed}
+use Rattle.network.proofs.fault.judged.Statement.{statement}
+use Rattle.network.proofs.fault.judged.Tie as tie
+
+abbrev Inv-loop : tie.InvT-loop
+Inv-loop sizes k block at size q₀ q = Reached (λ i. word-fault sizes k block (i - at)) size at 15 q
+
+abbrev μ-loop : tie.MeasureT-loop
+μ-loop sizes k block at size q₀ q = 15 - q
+
+-- the word that was judged is word q of the record
+here : (c : tie.After-word-fault Inv-loop μ-loop) → let x = c .before .before .before .before .args in
+    c .word-fault .result ≡ word-fault (x .sizes) (x .k) (x .block) (x .at + c .before .before .before .loop .q - x .at)
+here c =
+    let x = c .before .before .before .before .args in
+    c .word-fault .ensures ∙ ap (word-fault (x .sizes) (x .k) (x .block)) (sym (add-sub-cancel-left (x .at) (c .before .before .before .loop .q)))
+
+loop-holds : tie.Need-loop-holds Inv-loop μ-loop
+loop-holds c = begun _ _ _ _
+
+add-i : tie.Need-add-i Inv-loop μ-loop
+add-i c = omega arith
+
+add-place : tie.Need-add-place Inv-loop μ-loop
+add-place c = omega arith
+
+returns : tie.Need-returns Inv-loop μ-loop
+returns c = stop-missing (c .before .before .loop .inv) (c .before .loop-test .taken) (c .if1 .taken)
+
+word-fault-requires : tie.Need-word-fault-requires Inv-loop μ-loop
+word-fault-requires c κs = search needs
+
+returns-2 : tie.Need-returns-2 Inv-loop μ-loop
+returns-2 c = stop-fault (c .before .before .before .before .loop .inv) (c .before .before .before .loop-test .taken) (c .before .before .if1 .left) (here (c .before)) (c .if2 .taken)
+
+add-q : tie.Need-add-q Inv-loop μ-loop
+add-q c = omega arith
+
+loop-less : tie.Need-loop-less Inv-loop μ-loop
+loop-less c = omega arith
+
+loop-again : tie.Need-loop-again Inv-loop μ-loop
+loop-again c = go-on (c .before .before .before .before .loop .inv) (c .before .before .before .loop-test .taken) (c .before .before .if1 .left) (sym (here (c .before)) ∙ c .if2 .left)
+
+returns-3 : tie.Need-returns-3 Inv-loop μ-loop
+returns-3 c = passed (c .before .loop .inv) (c .loop-test .left)
+
+pub judged-spec : {M : Type 1} → statement M
+judged-spec =
+    tie.close
+    (tie.spec
+    Inv-loop
+    μ-loop
+    loop-holds
+    add-i
+    add-place
+    returns
+    word-fault-requires
+    returns-2
+    add-q
+    loop-less
+    loop-again
+    returns-3)

@@ -1,0 +1,13 @@
+-- `network::fault::none_fault` meets its contract: its tests are those of the definition, one after the other. Assumes nothing.
+use borrow.Author.Tests.{eq-eqb, ne-eqb}
+use Rattle.network.proofs.fault.none_fault.Statement.{statement}
+use Rattle.network.proofs.fault.none_fault.Tie as tie
+
+returns : tie.Need-returns
+returns c = simp (eq-eqb _ _ (c .if1 .taken))
+
+returns-2 : tie.Need-returns-2
+returns-2 c = simp (ne-eqb _ _ (c .if1 .left))
+
+pub none-fault-spec : {M : Type 1} → statement M
+none-fault-spec = tie.close (tie.spec returns returns-2)

@@ -1,0 +1,8 @@
+-- What the contracts of `network` cite, in document 01's order: the table, a network in words, the numbers returned.
+pub mod Table
+pub mod Rules
+pub mod Record
+pub mod Fault
+pub mod Check
+pub mod Sound
+pub mod RoundTrip

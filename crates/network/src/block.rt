@@ -1,0 +1,106 @@
+// A block's record, and its 15 words.
+ghost use mathlib.Core.Path.{_≡_};
+ghost use Prim.Native.Nat.{_<_};
+ghost use Rattle.network.specs.Record.{word, node-at, input-at, inputs-at, coils-at, block-at};
+
+// A reference: its class (0, 1, 3 or 4, or 9 for a constant) and its number.
+pub struct Node {
+    pub class: u16,
+    pub number: u16,
+}
+
+// An input: its code (0 to 8) and its number.
+pub struct Input {
+    pub code: u16,
+    pub number: u16,
+}
+
+pub struct Inputs {
+    pub top: Input,
+    pub middle: Input,
+    pub bottom: Input,
+}
+
+// The coils of the three outputs, 0 for none.
+pub struct Coils {
+    pub top: u16,
+    pub middle: u16,
+    pub bottom: u16,
+}
+
+// A record: any 15 words are one.
+pub struct Block {
+    pub kind: u16,
+    pub n: u16,
+    pub top: Node,
+    pub middle: Node,
+    pub inputs: Inputs,
+    pub coils: Coils,
+}
+
+// The word at an index, or 0 where there is none.
+pub(crate) fn word(words: &[u16], i: usize) -> u16
+    ensures { λ r. ⌜ r ≡ word (now (words .entry)) i ⌝ }
+{
+    if i < words.len() {
+        return words[i];
+    }
+    0
+}
+
+fn node_at(words: &[u16], at: usize) -> Node
+    requires { ⌜ at < 1000000 ⌝ }
+    ensures { λ r. ⌜ r ≡ node-at (now (words .entry)) at ⌝ }
+{
+    Node {
+        class: word(words, at),
+        number: word(words, at + 1),
+    }
+}
+
+fn input_at(words: &[u16], at: usize) -> Input
+    requires { ⌜ at < 1000000 ⌝ }
+    ensures { λ r. ⌜ r ≡ input-at (now (words .entry)) at ⌝ }
+{
+    Input {
+        code: word(words, at),
+        number: word(words, at + 1),
+    }
+}
+
+fn inputs_at(words: &[u16], at: usize) -> Inputs
+    requires { ⌜ at < 999000 ⌝ }
+    ensures { λ r. ⌜ r ≡ inputs-at (now (words .entry)) at ⌝ }
+{
+    Inputs {
+        top: input_at(words, at),
+        middle: input_at(words, at + 2),
+        bottom: input_at(words, at + 4),
+    }
+}
+
+fn coils_at(words: &[u16], at: usize) -> Coils
+    requires { ⌜ at < 1000000 ⌝ }
+    ensures { λ r. ⌜ r ≡ coils-at (now (words .entry)) at ⌝ }
+{
+    Coils {
+        top: word(words, at),
+        middle: word(words, at + 1),
+        bottom: word(words, at + 2),
+    }
+}
+
+// The record whose words stand from an index on.
+pub(crate) fn block_at(words: &[u16], at: usize) -> Block
+    requires { ⌜ at < 990000 ⌝ }
+    ensures { λ r. ⌜ r ≡ block-at (now (words .entry)) at ⌝ }
+{
+    Block {
+        kind: word(words, at),
+        n: word(words, at + 1),
+        top: node_at(words, at + 2),
+        middle: node_at(words, at + 4),
+        inputs: inputs_at(words, at + 6),
+        coils: coils_at(words, at + 12),
+    }
+}
