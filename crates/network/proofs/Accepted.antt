@@ -18,13 +18,13 @@ use Rattle.network.specs.declared.block.Node.{Node}
 use Rattle.network.specs.declared.block.Input.{Input}
 use Rattle.network.specs.declared.block.Block.{Block}
 use Rattle.network.specs.Table.{most-coils, most-discretes, most-inputs, most-holding, most-constant, discrete, size-of, offset, bad-start, reference-fault}
-use Rattle.network.specs.Rules.{kind, rule, allows}
+use Rattle.network.specs.Rules.{rule, allows}
 use Rattle.network.specs.Record.{word, block-at}
-use Rattle.network.specs.Fault.{class-fault, number-fault, none-fault, contact-fault, earlier-fault, input-fault, coil-fault, top-words, faults, word-fault}
-use Rattle.network.specs.Check.{verdict, done, then, seek, over, most-blocks, sizes-in, head-fault, block-start, fault-in, network-end, leading, left-over, opened, checked}
+use Rattle.network.specs.Fault.{class-fault, number-fault, counted as counts, up-to, input-fault, top-words, faults, word-fault}
+use Rattle.network.specs.Check.{verdict, done, then, seek, most-blocks, sizes-in, head-fault, block-start, fault-in, network-end, leading, left-over, opened, checked}
 use Rattle.network.specs.Sound.{Placed, GoodNode, GoodInput, GoodBlock, Sound, AcceptsExactly}
 use Rattle.network.proofs.Walk.{seek-missing, seek-fault, seek-next, then-first, then-next, le-of-not-lt}
-use Rattle.network.proofs.Faults.{constant-small, constant-large, no-constant, input-fixed, input-coil, input-discrete, input-output}
+use Rattle.network.proofs.Faults.{counted-in, up-to-in, of-constant, no-constant, input-fixed, input-coil, input-discrete, input-output}
 use Rattle.network.proofs.References.{reference-inside}
 use Rattle.network.proofs.Networks.{in-head, in-block}
 
@@ -41,11 +41,13 @@ both true true e = (refl, refl)
 both true false e = absurd (false≢true e)
 both false b e = absurd (false≢true e)
 
-counted : (most n : ℕ) → (leb 1 n && leb n most) ≡ true → (1 ≤ n) × (n ≤ most)
-counted most n e = let t = both (leb 1 n) (leb n most) e in (leb-true 1 n (t .0), leb-true n most (t .1))
+count-of : (most n refusal : ℕ) → (refusal ≡ 0 → ⊥) → counts most n refusal ≡ 0 → (1 ≤ n) × (n ≤ most)
+count-of most n refusal h e =
+    let t = both (leb 1 n) (leb n most) (earns (leb 1 n && leb n most) refusal h e) in
+    (leb-true 1 n (t .0), leb-true n most (t .1))
 
-in-count : (most n : ℕ) → 1 ≤ n → n ≤ most → (leb 1 n && leb n most) ≡ true
-in-count most n l u = simp (le-leb 1 n l, le-leb n most u)
+most-of : (most n refusal : ℕ) → (refusal ≡ 0 → ⊥) → up-to most n refusal ≡ 0 → n ≤ most
+most-of most n refusal h e = leb-true n most (earns (leb n most) refusal h e)
 
 -- ---- references and nodes
 aligned-from : (d r : Bool) → (d && not r) ≡ false → d ≡ true → r ≡ true
@@ -85,15 +87,9 @@ good-node : (z : Sizes) (classes : Classes) (node : Node) (words : ℕ) → clas
 unfolding class-fault
 good-node z classes node words c e = record {
   class-allowed = earns (allows classes (node .class)) 6 (λ q. omega arith) c;
-  constant = λ k. elim (decLe (node .number) most-constant) [
-    | yes l ↦ l
-    | no l ↦ absurd (six-not-zero (sym (constant-large z node words k (lt-of-not-le l)) ∙ e))
-  ];
+  constant = λ k. most-of most-constant (node .number) 6 (λ q. omega arith) (sym (of-constant z node words k) ∙ e);
   placed = λ k. placed z (node .class) (node .number) words (sym (no-constant z node words k) ∙ e);
 }
-  where
-    six-not-zero : _≡_ {A = ℕ} 6 0 → ⊥
-    six-not-zero q = omega arith
 
 class-clear : (classes : Classes) (class : ℕ) → allows classes class ≡ true → class-fault classes class ≡ 0
 unfolding class-fault
@@ -101,60 +97,44 @@ class-clear classes class e = nothing (allows classes class) 6 e
 
 number-clear : (z : Sizes) (classes : Classes) (node : Node) (words : ℕ) → GoodNode z classes node words → number-fault z node words ≡ 0
 number-clear z classes node words g = elim (ℕ-discrete (node .class) 9) [
-  | yes k ↦ constant-small z node words k (g .constant k)
+  | yes k ↦ of-constant z node words k ∙ up-to-in most-constant (node .number) 6 (g .constant k)
   | no k ↦ no-constant z node words k ∙ unplaced z (node .class) (node .number) words (g .placed k)
 ]
 
 -- ---- inputs
-earlier-than : (k n : ℕ) → (leb 1 n && ltb n k) ≡ true → (1 ≤ n) × (n < k)
-earlier-than k n e = let t = both (leb 1 n) (ltb n k) e in (leb-true 1 n (t .0), ltb-true n k (t .1))
-
-good-input : (z : Sizes) (k : ℕ) (input : Input) → _≡_ {A = ℕ} (cond (leb (input .code) 8) 0 9) 0 → input-fault z k input ≡ 0 → GoodInput z k input
-good-input z k input c e = record {
-  known = leb-true (input .code) 8 (earns (leb (input .code) 8) 9 (λ q. omega arith) c);
-  fixed = λ l. eqb-true (input .number) 0 (earns (eqb (input .number) 0) 9 (λ q. omega arith) (sym (input-fixed z k input l) ∙ e));
-  coil = λ l u.
-      counted (16 * z .coils) (input .number)
-      (earns (leb 1 (input .number) && leb (input .number) (16 * z .coils)) 9 (λ q. omega arith) (sym (input-coil z k input l u) ∙ e));
-  contact = λ l u.
-      counted (16 * z .discretes) (input .number)
-      (earns (leb 1 (input .number) && leb (input .number) (16 * z .discretes)) 9 (λ q. omega arith) (sym (input-discrete z k input l u) ∙ e));
-  earlier = λ l.
-      earlier-than k (input .number)
-      (earns (leb 1 (input .number) && ltb (input .number) k) 9 (λ q. omega arith) (sym (input-output z k input l) ∙ e));
+good-input : (z : Sizes) (earlier : ℕ) (input : Input) → up-to 8 (input .code) 9 ≡ 0 → input-fault z earlier input ≡ 0 → GoodInput z earlier input
+good-input z earlier input c e = record {
+  known = most-of 8 (input .code) 9 (λ q. omega arith) c;
+  fixed = λ l. le-antisymm (most-of 0 (input .number) 9 (λ q. omega arith) (sym (input-fixed z earlier input l) ∙ e)) (omega arith);
+  coil = λ l u. count-of (16 * z .coils) (input .number) 9 (λ q. omega arith) (sym (input-coil z earlier input l u) ∙ e);
+  contact = λ l u. count-of (16 * z .discretes) (input .number) 9 (λ q. omega arith) (sym (input-discrete z earlier input l u) ∙ e);
+  block = λ l. count-of earlier (input .number) 9 (λ q. omega arith) (sym (input-output z earlier input l) ∙ e);
 }
 
-code-clear : (z : Sizes) (k : ℕ) (input : Input) → GoodInput z k input → _≡_ {A = ℕ} (cond (leb (input .code) 8) 0 9) 0
-code-clear z k input g = nothing (leb (input .code) 8) 9 (le-leb (input .code) 8 (g .known))
-
-input-clear : (z : Sizes) (k : ℕ) (input : Input) → GoodInput z k input → input-fault z k input ≡ 0
-input-clear z k input g = elim (decLe (input .code) 1) [
-  | yes l ↦ input-fixed z k input l ∙ nothing (eqb (input .number) 0) 9 (eq-eqb (input .number) 0 (g .fixed l))
+input-clear : (z : Sizes) (earlier : ℕ) (input : Input) → GoodInput z earlier input → input-fault z earlier input ≡ 0
+input-clear z earlier input g = elim (decLe (input .code) 1) [
+  | yes l ↦ input-fixed z earlier input l ∙ up-to-in 0 (input .number) 9 (omega (arith, g .fixed l))
   | no l ↦ elim (decLe (input .code) 3) [
     | yes u ↦
         let t = g .coil (lt-of-not-le l) u in
-        input-coil z k input (lt-of-not-le l) u
-        ∙ nothing (leb 1 (input .number) && leb (input .number) (16 * z .coils)) 9 (in-count (16 * z .coils) (input .number) (t .0) (t .1))
+        input-coil z earlier input (lt-of-not-le l) u ∙ counted-in (16 * z .coils) (input .number) 9 (t .0) (t .1)
     | no u ↦ elim (decLe (input .code) 5) [
       | yes v ↦
           let t = g .contact (lt-of-not-le u) v in
-          input-discrete z k input (lt-of-not-le u) v
-          ∙ nothing (leb 1 (input .number) && leb (input .number) (16 * z .discretes)) 9 (in-count (16 * z .discretes) (input .number) (t .0) (t .1))
+          input-discrete z earlier input (lt-of-not-le u) v ∙ counted-in (16 * z .discretes) (input .number) 9 (t .0) (t .1)
       | no v ↦
-          let t = g .earlier (lt-of-not-le v) in
-          input-output z k input (lt-of-not-le v)
-          ∙ nothing (leb 1 (input .number) && ltb (input .number) k) 9
-          (simp (le-leb 1 (input .number) (t .0), lt-ltb (input .number) k (t .1)))
+          let t = g .block (lt-of-not-le v) in
+          input-output z earlier input (lt-of-not-le v) ∙ counted-in earlier (input .number) 9 (t .0) (t .1)
     ]
   ]
 ]
 
 -- ---- a record
-good-block : (z : Sizes) (k : ℕ) (b : Block) → ((q : ℕ) → q < 15 → word-fault z k b q ≡ 0) → GoodBlock z k b
+good-block : (z : Sizes) (earlier : ℕ) (b : Block) → ((q : ℕ) → q < 15 → word-fault z earlier b q ≡ 0) → GoodBlock z earlier b
 unfolding word-fault
-good-block z k b e =
-    let known = counted 8 (b .kind) (earns (kind (b .kind)) 4 (λ q. omega arith) (e 0 (lit< tt))) in
-    let long = counted (rule (b .kind) .most) (b .n) (earns (leb 1 (b .n) && leb (b .n) (rule (b .kind) .most)) 5 (λ q. omega arith) (e 1 (lit< tt))) in
+good-block z earlier b e =
+    let known = count-of 8 (b .kind) 4 (λ q. omega arith) (e 0 (lit< tt)) in
+    let long = count-of (rule (b .kind) .most) (b .n) 5 (λ q. omega arith) (e 1 (lit< tt)) in
     record {
       kind-low = known .0;
       kind-high = known .1;
@@ -162,36 +142,33 @@ good-block z k b e =
       length-high = long .1;
       top-node = good-node z (rule (b .kind) .top) (b .top) (top-words (rule (b .kind) .pointer) (b .n)) (e 2 (lit< tt)) (e 3 (lit< tt));
       middle-node = good-node z (rule (b .kind) .middle) (b .middle) (b .n + rule (b .kind) .extra) (e 4 (lit< tt)) (e 5 (lit< tt));
-      top-input = good-input z k (b .inputs .top) (e 6 (lit< tt)) (e 7 (lit< tt));
-      middle-input = good-input z k (b .inputs .middle) (e 8 (lit< tt)) (e 9 (lit< tt));
-      bottom-input = good-input z k (b .inputs .bottom) (e 10 (lit< tt)) (e 11 (lit< tt));
-      top-coil = leb-true (b .coils .top) (16 * z .coils) (earns (leb (b .coils .top) (16 * z .coils)) 10 (λ q. omega arith) (e 12 (lit< tt)));
-      middle-coil = leb-true (b .coils .middle) (16 * z .coils) (earns (leb (b .coils .middle) (16 * z .coils)) 10 (λ q. omega arith) (e 13 (lit< tt)));
-      bottom-coil = leb-true (b .coils .bottom) (16 * z .coils) (earns (leb (b .coils .bottom) (16 * z .coils)) 10 (λ q. omega arith) (e 14 (lit< tt)));
+      top-input = good-input z earlier (b .inputs .top) (e 6 (lit< tt)) (e 7 (lit< tt));
+      middle-input = good-input z earlier (b .inputs .middle) (e 8 (lit< tt)) (e 9 (lit< tt));
+      bottom-input = good-input z earlier (b .inputs .bottom) (e 10 (lit< tt)) (e 11 (lit< tt));
+      top-coil = most-of (16 * z .coils) (b .coils .top) 10 (λ q. omega arith) (e 12 (lit< tt));
+      middle-coil = most-of (16 * z .coils) (b .coils .middle) 10 (λ q. omega arith) (e 13 (lit< tt));
+      bottom-coil = most-of (16 * z .coils) (b .coils .bottom) 10 (λ q. omega arith) (e 14 (lit< tt));
     }
 
-coil-clear : (z : Sizes) (coil : ℕ) → coil ≤ 16 * z .coils → coil-fault z coil ≡ 0
-coil-clear z coil l = nothing (leb coil (16 * z .coils)) 10 (le-leb coil (16 * z .coils) l)
-
-words-clear : (z : Sizes) (k : ℕ) (b : Block) → GoodBlock z k b → (q : ℕ) → word-fault z k b q ≡ 0
+words-clear : (z : Sizes) (earlier : ℕ) (b : Block) → GoodBlock z earlier b → (q : ℕ) → word-fault z earlier b q ≡ 0
 unfolding word-fault
-words-clear z k b g zero = nothing (kind (b .kind)) 4 (in-count 8 (b .kind) (g .kind-low) (g .kind-high))
-words-clear z k b g (suc zero) =
-    nothing (leb 1 (b .n) && leb (b .n) (rule (b .kind) .most)) 5 (in-count (rule (b .kind) .most) (b .n) (g .length-low) (g .length-high))
-words-clear z k b g (suc (suc zero)) = class-clear (rule (b .kind) .top) (b .top .class) (g .top-node .class-allowed)
-words-clear z k b g (suc (suc (suc zero))) = number-clear z (rule (b .kind) .top) (b .top) (top-words (rule (b .kind) .pointer) (b .n)) (g .top-node)
-words-clear z k b g (suc (suc (suc (suc zero)))) = class-clear (rule (b .kind) .middle) (b .middle .class) (g .middle-node .class-allowed)
-words-clear z k b g (suc (suc (suc (suc (suc zero))))) = number-clear z (rule (b .kind) .middle) (b .middle) (b .n + rule (b .kind) .extra) (g .middle-node)
-words-clear z k b g (suc (suc (suc (suc (suc (suc zero)))))) = code-clear z k (b .inputs .top) (g .top-input)
-words-clear z k b g (suc (suc (suc (suc (suc (suc (suc zero))))))) = input-clear z k (b .inputs .top) (g .top-input)
-words-clear z k b g (suc (suc (suc (suc (suc (suc (suc (suc zero)))))))) = code-clear z k (b .inputs .middle) (g .middle-input)
-words-clear z k b g (suc (suc (suc (suc (suc (suc (suc (suc (suc zero))))))))) = input-clear z k (b .inputs .middle) (g .middle-input)
-words-clear z k b g (suc (suc (suc (suc (suc (suc (suc (suc (suc (suc zero)))))))))) = code-clear z k (b .inputs .bottom) (g .bottom-input)
-words-clear z k b g (suc (suc (suc (suc (suc (suc (suc (suc (suc (suc (suc zero))))))))))) = input-clear z k (b .inputs .bottom) (g .bottom-input)
-words-clear z k b g (suc (suc (suc (suc (suc (suc (suc (suc (suc (suc (suc (suc zero)))))))))))) = coil-clear z (b .coils .top) (g .top-coil)
-words-clear z k b g (suc (suc (suc (suc (suc (suc (suc (suc (suc (suc (suc (suc (suc zero))))))))))))) = coil-clear z (b .coils .middle) (g .middle-coil)
-words-clear z k b g (suc (suc (suc (suc (suc (suc (suc (suc (suc (suc (suc (suc (suc (suc zero)))))))))))))) = coil-clear z (b .coils .bottom) (g .bottom-coil)
-words-clear z k b g (suc (suc (suc (suc (suc (suc (suc (suc (suc (suc (suc (suc (suc (suc (suc q))))))))))))))) = refl
+words-clear z earlier b g zero = counted-in 8 (b .kind) 4 (g .kind-low) (g .kind-high)
+words-clear z earlier b g (suc zero) =
+    counted-in (rule (b .kind) .most) (b .n) 5 (g .length-low) (g .length-high)
+words-clear z earlier b g (suc (suc zero)) = class-clear (rule (b .kind) .top) (b .top .class) (g .top-node .class-allowed)
+words-clear z earlier b g (suc (suc (suc zero))) = number-clear z (rule (b .kind) .top) (b .top) (top-words (rule (b .kind) .pointer) (b .n)) (g .top-node)
+words-clear z earlier b g (suc (suc (suc (suc zero)))) = class-clear (rule (b .kind) .middle) (b .middle .class) (g .middle-node .class-allowed)
+words-clear z earlier b g (suc (suc (suc (suc (suc zero))))) = number-clear z (rule (b .kind) .middle) (b .middle) (b .n + rule (b .kind) .extra) (g .middle-node)
+words-clear z earlier b g (suc (suc (suc (suc (suc (suc zero)))))) = up-to-in 8 (b .inputs .top .code) 9 (g .top-input .known)
+words-clear z earlier b g (suc (suc (suc (suc (suc (suc (suc zero))))))) = input-clear z earlier (b .inputs .top) (g .top-input)
+words-clear z earlier b g (suc (suc (suc (suc (suc (suc (suc (suc zero)))))))) = up-to-in 8 (b .inputs .middle .code) 9 (g .middle-input .known)
+words-clear z earlier b g (suc (suc (suc (suc (suc (suc (suc (suc (suc zero))))))))) = input-clear z earlier (b .inputs .middle) (g .middle-input)
+words-clear z earlier b g (suc (suc (suc (suc (suc (suc (suc (suc (suc (suc zero)))))))))) = up-to-in 8 (b .inputs .bottom .code) 9 (g .bottom-input .known)
+words-clear z earlier b g (suc (suc (suc (suc (suc (suc (suc (suc (suc (suc (suc zero))))))))))) = input-clear z earlier (b .inputs .bottom) (g .bottom-input)
+words-clear z earlier b g (suc (suc (suc (suc (suc (suc (suc (suc (suc (suc (suc (suc zero)))))))))))) = up-to-in (16 * z .coils) (b .coils .top) 10 (g .top-coil)
+words-clear z earlier b g (suc (suc (suc (suc (suc (suc (suc (suc (suc (suc (suc (suc (suc zero))))))))))))) = up-to-in (16 * z .coils) (b .coils .middle) 10 (g .middle-coil)
+words-clear z earlier b g (suc (suc (suc (suc (suc (suc (suc (suc (suc (suc (suc (suc (suc (suc zero)))))))))))))) = up-to-in (16 * z .coils) (b .coils .bottom) 10 (g .bottom-coil)
+words-clear z earlier b g (suc (suc (suc (suc (suc (suc (suc (suc (suc (suc (suc (suc (suc (suc (suc q))))))))))))))) = refl
 
 -- ---- all words
 module _ (f : ℕ → ℕ) (size : ℕ) where
@@ -253,22 +230,19 @@ module _ (ws : List ℕ) where
   head-clear : checked ws .number ≡ 0 → (i : ℕ) → i < 6 → head-fault i (word ws i) ≡ 0
   head-clear e i l = sym (in-head ws i l) ∙ earned e i (omega arith) .1
 
-  not-over : (most w : ℕ) → over most w ≡ 0 → w ≤ most
-  not-over most w e = leb-true w most (earns (leb w most) 3 (λ q. omega arith) e)
-
   accepted-sound : checked ws .number ≡ 0 → Sound ws
   unfolding head-fault
   accepted-sound e =
       let last = earned e (5 + 15 * word ws 5) (omega arith) in
       record {
         areas = eqb-true (word ws 0) 4 (earns (eqb (word ws 0) 4) 2 (λ q. omega arith) (head-clear e 0 (lit< tt)));
-        coils = not-over most-coils (word ws 1) (head-clear e 1 (lit< tt));
-        discretes = not-over most-discretes (word ws 2) (head-clear e 2 (lit< tt));
-        inputs = not-over most-inputs (word ws 3) (head-clear e 3 (lit< tt));
-        holding = not-over most-holding (word ws 4) (head-clear e 4 (lit< tt));
-        few = leb-true (word ws 5) most-blocks (earns (leb (word ws 5) most-blocks) 2 (λ q. omega arith) (head-clear e 5 (lit< tt)));
+        coils = most-of most-coils (word ws 1) 3 (λ q. omega arith) (head-clear e 1 (lit< tt));
+        discretes = most-of most-discretes (word ws 2) 3 (λ q. omega arith) (head-clear e 2 (lit< tt));
+        inputs = most-of most-inputs (word ws 3) 3 (λ q. omega arith) (head-clear e 3 (lit< tt));
+        holding = most-of most-holding (word ws 4) 3 (λ q. omega arith) (head-clear e 4 (lit< tt));
+        few = most-of most-blocks (word ws 5) 2 (λ q. omega arith) (head-clear e 5 (lit< tt));
         whole = le-antisymm (not-longer e) (omega (arith, last .0));
-        blocks = λ j l. good-block (sizes-in ws) (suc j) (block-at ws (block-start j))
+        blocks = λ j l. good-block (sizes-in ws) j (block-at ws (block-start j))
             (λ q u. sym (in-block ws j q u) ∙ earned e (block-start j + q) (omega arith) .1);
       }
 
@@ -276,11 +250,11 @@ module _ (ws : List ℕ) where
   head-sound : Sound ws → (i : ℕ) → i < 6 → head-fault i (word ws i) ≡ 0
   unfolding head-fault
   head-sound s zero l = nothing (eqb (word ws 0) 4) 2 (eq-eqb (word ws 0) 4 (s .areas))
-  head-sound s (suc zero) l = nothing (leb (word ws 1) most-coils) 3 (le-leb (word ws 1) most-coils (s .coils))
-  head-sound s (suc (suc zero)) l = nothing (leb (word ws 2) most-discretes) 3 (le-leb (word ws 2) most-discretes (s .discretes))
-  head-sound s (suc (suc (suc zero))) l = nothing (leb (word ws 3) most-inputs) 3 (le-leb (word ws 3) most-inputs (s .inputs))
-  head-sound s (suc (suc (suc (suc zero)))) l = nothing (leb (word ws 4) most-holding) 3 (le-leb (word ws 4) most-holding (s .holding))
-  head-sound s (suc (suc (suc (suc (suc zero))))) l = nothing (leb (word ws 5) most-blocks) 2 (le-leb (word ws 5) most-blocks (s .few))
+  head-sound s (suc zero) l = up-to-in most-coils (word ws 1) 3 (s .coils)
+  head-sound s (suc (suc zero)) l = up-to-in most-discretes (word ws 2) 3 (s .discretes)
+  head-sound s (suc (suc (suc zero))) l = up-to-in most-inputs (word ws 3) 3 (s .inputs)
+  head-sound s (suc (suc (suc (suc zero)))) l = up-to-in most-holding (word ws 4) 3 (s .holding)
+  head-sound s (suc (suc (suc (suc (suc zero))))) l = up-to-in most-blocks (word ws 5) 2 (s .few)
   head-sound s (suc (suc (suc (suc (suc (suc i)))))) l = absurd (omega arith)
 
   word-sound : Sound ws → (q : ℕ) → q < network-end ws → fault-in ws q ≡ 0
@@ -293,7 +267,7 @@ module _ (ws : List ℕ) where
         let at : block-start j + r ≡ q = omega arith in
         ap (fault-in ws) (sym at)
         ∙ in-block ws j r (omega arith)
-        ∙ words-clear (sizes-in ws) (suc j) (block-at ws (block-start j)) (s .blocks j (omega arith)) r
+        ∙ words-clear (sizes-in ws) j (block-at ws (block-start j)) (s .blocks j (omega arith)) r
   ]
 
   sound-done : Sound ws → checked ws ≡ done
@@ -313,5 +287,5 @@ pub accepted-done : (ws : List ℕ) → checked ws .number ≡ 0 → checked ws 
 accepted-done ws e = sound-done ws (accepted-sound ws e)
 
 -- a sound record earns nothing, whatever its place
-pub record-clear : (z : Sizes) (k : ℕ) (b : Block) → GoodBlock z k b → (q : ℕ) → word-fault z k b q ≡ 0
+pub record-clear : (z : Sizes) (earlier : ℕ) (b : Block) → GoodBlock z earlier b → (q : ℕ) → word-fault z earlier b q ≡ 0
 record-clear = words-clear

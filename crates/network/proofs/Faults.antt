@@ -14,50 +14,64 @@ use Rattle.network.specs.declared.block.Node.{Node}
 use Rattle.network.specs.declared.block.Input.{Input}
 use Rattle.network.specs.declared.block.Block.{Block}
 use Rattle.network.specs.Table.{most-constant, reference-fault}
-use Rattle.network.specs.Fault.{number-fault, none-fault, contact-fault, earlier-fault, input-fault, faults, word-fault}
+use Rattle.network.specs.Fault.{counted, up-to, number-fault, input-fault, faults, word-fault}
 
+-- ---- the two tests
+pub counted-in : (most n refusal : ℕ) → 1 ≤ n → n ≤ most → counted most n refusal ≡ 0
+counted-in most n refusal l u = simp (le-leb 1 n l, le-leb n most u)
+
+pub counted-low : (most n refusal : ℕ) → n < 1 → counted most n refusal ≡ refusal
+counted-low most n refusal l = simp (lt-leb 1 n l)
+
+pub counted-high : (most n refusal : ℕ) → 1 ≤ n → most < n → counted most n refusal ≡ refusal
+counted-high most n refusal l u = simp (le-leb 1 n l, lt-leb n most u)
+
+pub up-to-in : (most n refusal : ℕ) → n ≤ most → up-to most n refusal ≡ 0
+up-to-in most n refusal l = ap (λ (b : Bool). cond b 0 refusal) (le-leb n most l)
+
+pub up-to-out : (most n refusal : ℕ) → most < n → up-to most n refusal ≡ refusal
+up-to-out most n refusal l = ap (λ (b : Bool). cond b 0 refusal) (lt-leb n most l)
+
+-- ---- nodes and inputs
 module _ (z : Sizes) (node : Node) (words : ℕ) where
-  by-class : (constant small : Bool) → eqb (node .class) 9 ≡ constant → leb (node .number) most-constant ≡ small
-      → number-fault z node words ≡ cond constant (cond small 0 6) (reference-fault z (node .class) (node .number) words)
+  by-class : (constant : Bool) → eqb (node .class) 9 ≡ constant
+      → number-fault z node words ≡ cond constant (up-to most-constant (node .number) 6) (reference-fault z (node .class) (node .number) words)
   unfolding number-fault
-  by-class constant small p q =
-      ap₂ (λ (c s : Bool). cond c (cond s 0 6) (reference-fault z (node .class) (node .number) words)) p q
+  by-class constant p =
+      ap (λ (c : Bool). cond c (up-to most-constant (node .number) 6) (reference-fault z (node .class) (node .number) words)) p
 
-  pub constant-small : node .class ≡ 9 → node .number ≤ most-constant → number-fault z node words ≡ 0
-  constant-small e l = by-class true true (eq-eqb (node .class) 9 e) (le-leb (node .number) most-constant l)
-
-  pub constant-large : node .class ≡ 9 → most-constant < node .number → number-fault z node words ≡ 6
-  constant-large e l = by-class true false (eq-eqb (node .class) 9 e) (lt-leb (node .number) most-constant l)
+  pub of-constant : node .class ≡ 9 → number-fault z node words ≡ up-to most-constant (node .number) 6
+  of-constant e = by-class true (eq-eqb (node .class) 9 e)
 
   pub no-constant : (node .class ≡ 9 → ⊥) → number-fault z node words ≡ reference-fault z (node .class) (node .number) words
-  no-constant h = by-class false (leb (node .number) most-constant) (ne-eqb (node .class) 9 h) refl
+  no-constant h = by-class false (ne-eqb (node .class) 9 h)
 
-module _ (z : Sizes) (k : ℕ) (input : Input) where
+module _ (z : Sizes) (earlier : ℕ) (input : Input) where
   choose : Bool → Bool → Bool → ℕ
   choose fixed coil discrete =
-      cond fixed (none-fault (input .number))
-      (cond coil (contact-fault (z .coils) (input .number))
-      (cond discrete (contact-fault (z .discretes) (input .number)) (earlier-fault k (input .number))))
+      cond fixed (up-to 0 (input .number) 9)
+      (cond coil (counted (16 * z .coils) (input .number) 9)
+      (cond discrete (counted (16 * z .discretes) (input .number) 9) (counted earlier (input .number) 9)))
 
   by-code : (fixed coil discrete : Bool) → leb (input .code) 1 ≡ fixed → leb (input .code) 3 ≡ coil → leb (input .code) 5 ≡ discrete
-      → input-fault z k input ≡ choose fixed coil discrete
+      → input-fault z earlier input ≡ choose fixed coil discrete
   unfolding input-fault choose
   by-code fixed coil discrete p q r = ap₂ (λ (a b : Bool). choose a b (leb (input .code) 5)) p q ∙ ap (choose fixed coil) r
 
-  pub input-fixed : input .code ≤ 1 → input-fault z k input ≡ none-fault (input .number)
+  pub input-fixed : input .code ≤ 1 → input-fault z earlier input ≡ up-to 0 (input .number) 9
   unfolding choose
   input-fixed l = by-code true _ _ (le-leb (input .code) 1 l) refl refl
 
-  pub input-coil : 1 < input .code → input .code ≤ 3 → input-fault z k input ≡ contact-fault (z .coils) (input .number)
+  pub input-coil : 1 < input .code → input .code ≤ 3 → input-fault z earlier input ≡ counted (16 * z .coils) (input .number) 9
   unfolding choose
   input-coil l u = by-code false true _ (lt-leb (input .code) 1 l) (le-leb (input .code) 3 u) refl
 
-  pub input-discrete : 3 < input .code → input .code ≤ 5 → input-fault z k input ≡ contact-fault (z .discretes) (input .number)
+  pub input-discrete : 3 < input .code → input .code ≤ 5 → input-fault z earlier input ≡ counted (16 * z .discretes) (input .number) 9
   unfolding choose
   input-discrete l u =
       by-code false false true (lt-leb (input .code) 1 (omega arith)) (lt-leb (input .code) 3 l) (le-leb (input .code) 5 u)
 
-  pub input-output : 5 < input .code → input-fault z k input ≡ earlier-fault k (input .number)
+  pub input-output : 5 < input .code → input-fault z earlier input ≡ counted earlier (input .number) 9
   unfolding choose
   input-output l =
       by-code false false false (lt-leb (input .code) 1 (omega arith)) (lt-leb (input .code) 3 (omega arith)) (lt-leb (input .code) 5 l)
@@ -67,6 +81,6 @@ pub none-below : (n q : ℕ) → ((i : ℕ) → i < n → q ≡ i → ⊥) → n
 none-below n q h = elim (decLe n q) [ yes l ↦ l | no l ↦ absurd (h q (lt-of-not-le l) refl) ]
 
 -- a record has 15 words
-pub word-fault-past : (z : Sizes) (k : ℕ) (b : Block) (q : ℕ) → 15 ≤ q → word-fault z k b q ≡ 0
+pub word-fault-past : (z : Sizes) (earlier : ℕ) (b : Block) (q : ℕ) → 15 ≤ q → word-fault z earlier b q ≡ 0
 unfolding word-fault
-word-fault-past z k b q l = List·getD-eq-default (faults z k b) 0 l
+word-fault-past z earlier b q l = List·getD-eq-default (faults z earlier b) 0 l

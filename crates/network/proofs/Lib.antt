@@ -4,6 +4,7 @@ pub mod Determined
 pub mod Examples
 pub mod Faults
 pub mod Kept
+pub mod KindFacts
 pub mod Networks
 pub mod Parts
 pub mod Reading

@@ -29,29 +29,28 @@ module _ (ws : List ℕ) where
   unfolding fault-in
   in-head i l =
       ap (λ (b : Bool). cond b (head-fault i (word ws i))
-      (word-fault (sizes-in ws) (suc ((i - 6) / 15)) (block-at ws (block-start ((i - 6) / 15))) ((i - 6) % 15)))
+      (word-fault (sizes-in ws) ((i - 6) / 15) (block-at ws (block-start ((i - 6) / 15))) ((i - 6) % 15)))
       (lt-ltb i 6 l)
 
-  pub in-block : (j q : ℕ) → q < 15 → fault-in ws (block-start j + q) ≡ word-fault (sizes-in ws) (suc j) (block-at ws (block-start j)) q
+  pub in-block : (j q : ℕ) → q < 15 → fault-in ws (block-start j + q) ≡ word-fault (sizes-in ws) j (block-at ws (block-start j)) q
   unfolding fault-in
   in-block j q l =
       let i : ℕ = block-start j + q in
       let which : (i - 6) / 15 ≡ j = omega arith in
       let place : (i - 6) % 15 ≡ q = omega arith in
       ap (λ (b : Bool). cond b (head-fault i (word ws i))
-      (word-fault (sizes-in ws) (suc ((i - 6) / 15)) (block-at ws (block-start ((i - 6) / 15))) ((i - 6) % 15)))
+      (word-fault (sizes-in ws) ((i - 6) / 15) (block-at ws (block-start ((i - 6) / 15))) ((i - 6) % 15)))
       (le-ltb i 6 (omega arith))
-      ∙ ap₂ (λ (x y : ℕ). word-fault (sizes-in ws) (suc x) (block-at ws (block-start x)) y) which place
+      ∙ ap₂ (λ (x y : ℕ). word-fault (sizes-in ws) x (block-at ws (block-start x)) y) which place
 
   -- the words of a block are judged as its record is
-  pub block-judged : (j : ℕ) → judged (sizes-in ws) (j + 1) (block-at ws (block-start j)) (block-start j) (length ws)
+  pub block-judged : (j : ℕ) → judged (sizes-in ws) j (block-at ws (block-start j)) (block-start j) (length ws)
       ≡ seek (fault-in ws) (length ws) (block-start j) 15
   block-judged j =
       seek-cong _ (fault-in ws) (length ws) 15 (block-start j)
       (λ i l u.
       let at : block-start j + (i - block-start j) ≡ i = omega arith in
-      ap (λ (k : ℕ). word-fault (sizes-in ws) k (block-at ws (block-start j)) (i - block-start j)) (add-one j)
-      ∙ sym (in-block j (i - block-start j) (omega arith))
+      sym (in-block j (i - block-start j) (omega arith))
       ∙ ap (fault-in ws) at)
 
   -- the head, then the blocks

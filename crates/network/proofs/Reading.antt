@@ -47,13 +47,13 @@ module _ (ws : List ℕ) (o : Opened) (k : ℕ) where
 -- ---- the writer
 module _ (z : Sizes) (k : ℕ) (b : Block) (l : List ℕ) where
   rest-after-k : Verdict
-  rest-after-k = then (judged z k b 0 15) (cond (eqb (length l) 15) done (verdict 12 0))
+  rest-after-k = then (judged z (k - 1) b 0 15) (cond (eqb (length l) 15) done (verdict 12 0))
 
   by-flags : (fits counted : Bool) → allowed z ≡ fits → (leb 1 k && leb k most-blocks) ≡ counted
       → write-verdict z k b l ≡ then (cond fits done (verdict 3 0)) (then (cond counted done (verdict 12 0)) rest-after-k)
   unfolding write-verdict rest-after-k
   by-flags fits counted p q =
-      ap₂ (λ (x y : Bool). then (cond x done (verdict 3 0)) (then (cond y done (verdict 12 0)) (then (judged z k b 0 15) (cond (eqb (length l) 15) done (verdict 12 0))))) p q
+      ap₂ (λ (x y : Bool). then (cond x done (verdict 3 0)) (then (cond y done (verdict 12 0)) (then (judged z (k - 1) b 0 15) (cond (eqb (length l) 15) done (verdict 12 0))))) p q
 
   pub write-sizes : allowed z ≡ false → write-verdict z k b l ≡ verdict 3 0
   write-sizes e = by-flags false _ e refl
@@ -61,23 +61,23 @@ module _ (z : Sizes) (k : ℕ) (b : Block) (l : List ℕ) where
   pub write-count : allowed z ≡ true → (leb 1 k && leb k most-blocks) ≡ false → write-verdict z k b l ≡ verdict 12 0
   write-count e f = by-flags true false e f
 
-  write-rest : allowed z ≡ true → (leb 1 k && leb k most-blocks) ≡ true → write-verdict z k b l ≡ then (judged z k b 0 15) (cond (eqb (length l) 15) done (verdict 12 0))
+  write-rest : allowed z ≡ true → (leb 1 k && leb k most-blocks) ≡ true → write-verdict z k b l ≡ then (judged z (k - 1) b 0 15) (cond (eqb (length l) 15) done (verdict 12 0))
   unfolding rest-after-k
   write-rest e f = by-flags true true e f
 
-  pub write-words : allowed z ≡ true → (leb 1 k && leb k most-blocks) ≡ true → (judged z k b 0 15 .number ≡ 0 → ⊥) → write-verdict z k b l ≡ judged z k b 0 15
-  write-words e f h = write-rest e f ∙ then-first (judged z k b 0 15) (cond (eqb (length l) 15) done (verdict 12 0)) h
+  pub write-words : allowed z ≡ true → (leb 1 k && leb k most-blocks) ≡ true → (judged z (k - 1) b 0 15 .number ≡ 0 → ⊥) → write-verdict z k b l ≡ judged z (k - 1) b 0 15
+  write-words e f h = write-rest e f ∙ then-first (judged z (k - 1) b 0 15) (cond (eqb (length l) 15) done (verdict 12 0)) h
 
-  pub write-short : allowed z ≡ true → (leb 1 k && leb k most-blocks) ≡ true → judged z k b 0 15 .number ≡ 0 → (length l ≡ 15 → ⊥) → write-verdict z k b l ≡ verdict 12 0
+  pub write-short : allowed z ≡ true → (leb 1 k && leb k most-blocks) ≡ true → judged z (k - 1) b 0 15 .number ≡ 0 → (length l ≡ 15 → ⊥) → write-verdict z k b l ≡ verdict 12 0
   write-short e f h n =
       write-rest e f
-      ∙ then-next (judged z k b 0 15) (cond (eqb (length l) 15) done (verdict 12 0)) h
+      ∙ then-next (judged z (k - 1) b 0 15) (cond (eqb (length l) 15) done (verdict 12 0)) h
       ∙ ap (λ (x : Bool). cond x done (verdict 12 0)) (ne-eqb (length l) 15 n)
 
-  pub write-done : allowed z ≡ true → (leb 1 k && leb k most-blocks) ≡ true → judged z k b 0 15 .number ≡ 0 → length l ≡ 15 → write-verdict z k b l ≡ done
+  pub write-done : allowed z ≡ true → (leb 1 k && leb k most-blocks) ≡ true → judged z (k - 1) b 0 15 .number ≡ 0 → length l ≡ 15 → write-verdict z k b l ≡ done
   write-done e f h n =
       write-rest e f
-      ∙ then-next (judged z k b 0 15) (cond (eqb (length l) 15) done (verdict 12 0)) h
+      ∙ then-next (judged z (k - 1) b 0 15) (cond (eqb (length l) 15) done (verdict 12 0)) h
       ∙ ap (λ (x : Bool). cond x done (verdict 12 0)) (eq-eqb (length l) 15 n)
 
   pub buffer-kept : (write-verdict z k b l .number ≡ 0 → ⊥) → write-buffer z k b l ≡ l

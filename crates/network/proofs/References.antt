@@ -5,7 +5,14 @@ use Prim.Native.Nat.{ℕ, _+_, _-_, _/_, _%_, _≤_, _<_}
 use borrow.Author.Tests.{le-leb, lt-leb, eq-eqb, ne-eqb}
 use lib.Dec.{leb, eqb}
 use Rattle.network.specs.declared.sizes.Sizes.{Sizes}
-use Rattle.network.specs.Table.{discrete, size-of, offset, bad-start, reference-fault}
+use Rattle.network.specs.Table.{most-coils, most-discretes, most-inputs, most-holding, allowed, discrete, size-of, offset, bad-start, reference-fault}
+
+-- sizes within their limits
+pub allowed-by : (z : Sizes) (a b c d : Bool) → leb (z .coils) most-coils ≡ a → leb (z .discretes) most-discretes ≡ b → leb (z .inputs) most-inputs ≡ c
+    → leb (z .holding) most-holding ≡ d → allowed z ≡ ((a && b) && (c && d))
+allowed-by z a b c d p q r s =
+    ap₂ (λ (x y : Bool). (x && y) && (leb (z .inputs) most-inputs && leb (z .holding) most-holding)) p q
+    ∙ ap₂ (λ (x y : Bool). (a && b) && (x && y)) r s
 
 pub offset-none : (class number : ℕ) → number ≡ 0 → offset class number ≡ 0
 offset-none class number e = ap (offset class) e ∙ go (discrete class)

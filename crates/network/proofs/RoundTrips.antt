@@ -122,11 +122,9 @@ pub read-is-written : ReadIsWritten
 read-is-written ws k buffer e l u long =
     let s : Sound ws = accepts-exactly ws .0 e in
     let j : ℕ = k - 1 in
-    let next : suc j ≡ k = omega arith in
-    let good = subst (λ (x : ℕ). (q : ℕ) → word-fault (sizes-in ws) x (block-at ws (block-start j)) q ≡ 0) next
-    (record-clear (sizes-in ws) (suc j) (block-at ws (block-start j)) (s .blocks j (omega arith))) in
-    let judge : judged (sizes-in ws) k (block-at ws (block-start j)) 0 15 ≡ done =
-    seek-every (λ i. word-fault (sizes-in ws) k (block-at ws (block-start j)) (i - 0)) 15 15 0 (λ q a b. (omega arith, good (q - 0))) in
+    let good = record-clear (sizes-in ws) j (block-at ws (block-start j)) (s .blocks j (omega arith)) in
+    let judge : judged (sizes-in ws) j (block-at ws (block-start j)) 0 15 ≡ done =
+    seek-every (λ i. word-fault (sizes-in ws) j (block-at ws (block-start j)) (i - 0)) 15 15 0 (λ q a b. (omega arith, good (q - 0))) in
     let ok : write-verdict (sizes-in ws) k (block-at ws (block-start j)) buffer ≡ done =
     write-done (sizes-in ws) k (block-at ws (block-start j)) buffer (sizes-allowed ws s)
     (in-count most-blocks k l (omega (arith, s .few))) (ap (λ (v : Verdict). v .number) judge) long in

@@ -13,7 +13,7 @@ use Rattle.network.specs.declared.reader.Read.{Read}
 use Rattle.network.specs.declared.reader.Read.the-variants.{Record, Refused}
 use Rattle.network.specs.Table.{most-coils, most-discretes, most-inputs, most-holding, allowed}
 use Rattle.network.specs.Record.{word, block-at, spelled}
-use Rattle.network.specs.Fault.{word-fault}
+use Rattle.network.specs.Fault.{up-to, word-fault}
 
 abbrev pub verdict : ℕ → ℕ → Verdict
 verdict number place = record { number = number; place = place }
@@ -31,26 +31,26 @@ unfoldable pub seek : (ℕ → ℕ) → ℕ → ℕ → ℕ → Verdict
 seek f size i zero = done
 seek f size i (suc n) = cond (ltb i size) (cond (eqb (f i) 0) (seek f size (suc i) n) (verdict (f i) (suc i))) (verdict 1 (suc i))
 
--- the 15 words of block k's record, which stand from index `at` on among so many words
+-- the 15 words of a record, which stand from index `at` on among so many words
 abbrev pub judged : Sizes → ℕ → Block → ℕ → ℕ → Verdict
-judged z k b at size = seek (λ i. word-fault z k b (i - at)) size at 15
+judged z earlier b at size = seek (λ i. word-fault z earlier b (i - at)) size at 15
 
 -- ---- a network
 
 abbrev pub sizes-in : List ℕ → Sizes
 sizes-in ws = record { coils = word ws 1; discretes = word ws 2; inputs = word ws 3; holding = word ws 4 }
 
--- the most blocks, and the words of one
+-- the most blocks of a network
 abbrev pub most-blocks : ℕ
 most-blocks = 128
-
-abbrev pub over : ℕ → ℕ → ℕ
-over most w = cond (leb w most) 0 3
 
 -- what the six words before the blocks earn: a count that is not 4 (2), a size over its limit (3), a count over 128 (2)
 unfoldable pub head-faults : ℕ → List ℕ
 head-faults w =
-    cond (eqb w 4) 0 2 ∷ over most-coils w ∷ over most-discretes w ∷ over most-inputs w ∷ over most-holding w ∷ cond (leb w most-blocks) 0 2 ∷ []
+    cond (eqb w 4) 0 2
+    ∷ up-to most-coils w 3 ∷ up-to most-discretes w 3 ∷ up-to most-inputs w 3 ∷ up-to most-holding w 3
+    ∷ up-to most-blocks w 2
+    ∷ []
 
 unfoldable pub head-fault : ℕ → ℕ → ℕ
 unfolding head-faults
@@ -65,7 +65,7 @@ unfoldable pub fault-in : List ℕ → ℕ → ℕ
 unfolding head-fault
 fault-in ws i =
     cond (ltb i 6) (head-fault i (word ws i))
-    (word-fault (sizes-in ws) (suc ((i - 6) / 15)) (block-at ws (block-start ((i - 6) / 15))) ((i - 6) % 15))
+    (word-fault (sizes-in ws) ((i - 6) / 15) (block-at ws (block-start ((i - 6) / 15))) ((i - 6) % 15))
 
 -- where the words end that the areas and the blocks take
 abbrev pub network-end : List ℕ → ℕ
@@ -114,7 +114,7 @@ unfolding seek
 write-verdict z k b buffer =
     then (cond (allowed z) done (verdict 3 0))
     (then (cond (leb 1 k && leb k most-blocks) done (verdict 12 0))
-    (then (judged z k b 0 15) (cond (eqb (length buffer) 15) done (verdict 12 0))))
+    (then (judged z (k - 1) b 0 15) (cond (eqb (length buffer) 15) done (verdict 12 0))))
 
 unfoldable pub write-buffer : Sizes → ℕ → Block → List ℕ → List ℕ
 unfolding write-verdict spelled

@@ -5,4 +5,5 @@ pub mod Record
 pub mod Fault
 pub mod Check
 pub mod Sound
+pub mod Kinds
 pub mod RoundTrip

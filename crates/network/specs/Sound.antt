@@ -29,24 +29,25 @@ pub record GoodNode (z : Sizes) (classes : Classes) (node : Node) (words : ℕ) 
   pub constant : node .class ≡ 9 → node .number ≤ most-constant
   pub placed : (node .class ≡ 9 → ⊥) → Placed z (node .class) (node .number) words
 
--- an input of block k has a code to 8; 0 and 1 have number 0, a contact is in its area, a block is an earlier one
-pub record GoodInput (z : Sizes) (k : ℕ) (input : Input) : Type 0 where
+-- an input has a code to 8; 0 and 1 have number 0, a contact is in its area, a block is one of the earlier ones
+pub record GoodInput (z : Sizes) (earlier : ℕ) (input : Input) : Type 0 where
   pub known : input .code ≤ 8
   pub fixed : input .code ≤ 1 → input .number ≡ 0
   pub coil : 1 < input .code → input .code ≤ 3 → (1 ≤ input .number) × (input .number ≤ 16 * z .coils)
   pub contact : 3 < input .code → input .code ≤ 5 → (1 ≤ input .number) × (input .number ≤ 16 * z .discretes)
-  pub earlier : 5 < input .code → (1 ≤ input .number) × (input .number < k)
+  pub block : 5 < input .code → (1 ≤ input .number) × (input .number ≤ earlier)
 
-pub record GoodBlock (z : Sizes) (k : ℕ) (b : Block) : Type 0 where
+-- a record that so many blocks are before
+pub record GoodBlock (z : Sizes) (earlier : ℕ) (b : Block) : Type 0 where
   pub kind-low : 1 ≤ b .kind
   pub kind-high : b .kind ≤ 8
   pub length-low : 1 ≤ b .n
   pub length-high : b .n ≤ rule (b .kind) .most
   pub top-node : GoodNode z (rule (b .kind) .top) (b .top) (top-words (rule (b .kind) .pointer) (b .n))
   pub middle-node : GoodNode z (rule (b .kind) .middle) (b .middle) (b .n + rule (b .kind) .extra)
-  pub top-input : GoodInput z k (b .inputs .top)
-  pub middle-input : GoodInput z k (b .inputs .middle)
-  pub bottom-input : GoodInput z k (b .inputs .bottom)
+  pub top-input : GoodInput z earlier (b .inputs .top)
+  pub middle-input : GoodInput z earlier (b .inputs .middle)
+  pub bottom-input : GoodInput z earlier (b .inputs .bottom)
   pub top-coil : b .coils .top ≤ 16 * z .coils
   pub middle-coil : b .coils .middle ≤ 16 * z .coils
   pub bottom-coil : b .coils .bottom ≤ 16 * z .coils
@@ -59,7 +60,7 @@ pub record Sound (ws : List ℕ) : Type 0 where
   pub holding : word ws 4 ≤ most-holding
   pub few : word ws 5 ≤ most-blocks
   pub whole : length ws ≡ network-end ws
-  pub blocks : (j : ℕ) → j < word ws 5 → GoodBlock (sizes-in ws) (suc j) (block-at ws (block-start j))
+  pub blocks : (j : ℕ) → j < word ws 5 → GoodBlock (sizes-in ws) j (block-at ws (block-start j))
 
 -- the checker accepts exactly the sound networks
 abbrev pub AcceptsExactly : Type 0

@@ -2,6 +2,7 @@
 use crate::block::block_at;
 use crate::block::word;
 use crate::fault::judged;
+use crate::fault::up_to;
 use crate::sizes::MOST_COILS;
 use crate::sizes::MOST_DISCRETES;
 use crate::sizes::MOST_HOLDING;
@@ -11,7 +12,7 @@ use bits::Verdict;
 ghost use mathlib.Core.Path.{_≡_};
 ghost use Prim.Native.Nat.{_*_, _≤_, _<_};
 ghost use lib.ListN.{length};
-ghost use Rattle.network.specs.Check.{over, head-fault, sizes-in, fault-in, seek, then, leading, opened, checked};
+ghost use Rattle.network.specs.Check.{head-fault, sizes-in, fault-in, seek, then, leading, opened, checked};
 
 // The verdict on a network with what its words spell: the sizes, the count of blocks, and the index after the last block.
 pub struct Opened {
@@ -21,16 +22,8 @@ pub struct Opened {
     pub next: usize,
 }
 
-const MOST_BLOCKS: u16 = 128;
-
-fn over(most: u16, w: u16) -> u16
-    ensures { λ r. ⌜ r ≡ over most w ⌝ }
-{
-    if w <= most {
-        return 0;
-    }
-    3
-}
+// The most blocks of a network.
+pub(crate) const MOST_BLOCKS: usize = 128;
 
 // The refusal that word i of the six before the blocks earns, i counted from 0, or 0.
 fn head_fault(i: usize, w: u16) -> u16
@@ -43,16 +36,11 @@ fn head_fault(i: usize, w: u16) -> u16
             }
             2
         }
-        1 => over(MOST_COILS, w),
-        2 => over(MOST_DISCRETES, w),
-        3 => over(MOST_INPUTS, w),
-        4 => over(MOST_HOLDING, w),
-        5 => {
-            if w <= MOST_BLOCKS {
-                return 0;
-            }
-            2
-        }
+        1 => up_to(MOST_COILS, w as usize, 3),
+        2 => up_to(MOST_DISCRETES, w as usize, 3),
+        3 => up_to(MOST_INPUTS, w as usize, 3),
+        4 => up_to(MOST_HOLDING, w as usize, 3),
+        5 => up_to(MOST_BLOCKS, w as usize, 2),
         _ => 0,
     }
 }
@@ -99,7 +87,7 @@ fn blocks(words: &[u16], sizes: Sizes, count: usize) -> Verdict
     while j < count {
         let at = 6 + 15 * j;
         let block = block_at(words, at);
-        let verdict = judged(sizes, j + 1, block, at, words.len());
+        let verdict = judged(sizes, j, block, at, words.len());
         if verdict.number != 0 {
             return verdict;
         }

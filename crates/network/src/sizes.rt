@@ -10,28 +10,28 @@ pub struct Sizes {
     pub holding: u16,
 }
 
-pub(crate) const MOST_COILS: u16 = 128;
+pub(crate) const MOST_COILS: usize = 128;
 
-pub(crate) const MOST_DISCRETES: u16 = 128;
+pub(crate) const MOST_DISCRETES: usize = 128;
 
-pub(crate) const MOST_INPUTS: u16 = 512;
+pub(crate) const MOST_INPUTS: usize = 512;
 
-pub(crate) const MOST_HOLDING: u16 = 9999;
+pub(crate) const MOST_HOLDING: usize = 9999;
 
 // Whether every area is within its limit.
 pub(crate) fn allowed(sizes: Sizes) -> bool
     ensures { λ r. ⌜ r ≡ allowed sizes ⌝ }
 {
-    if MOST_COILS < sizes.coils {
+    if MOST_COILS < sizes.coils as usize {
         return false;
     }
-    if MOST_DISCRETES < sizes.discretes {
+    if MOST_DISCRETES < sizes.discretes as usize {
         return false;
     }
-    if MOST_INPUTS < sizes.inputs {
+    if MOST_INPUTS < sizes.inputs as usize {
         return false;
     }
-    if MOST_HOLDING < sizes.holding {
+    if MOST_HOLDING < sizes.holding as usize {
         return false;
     }
     true

@@ -1,5 +1,6 @@
 // The record writer.
 use crate::block::Block;
+use crate::checker::MOST_BLOCKS;
 use crate::fault::judged;
 use crate::sizes::Sizes;
 use crate::sizes::allowed;
@@ -50,13 +51,13 @@ pub fn write_record(sizes: Sizes, k: usize, block: Block, buffer: &mut [u16]) ->
             place: 0,
         };
     }
-    if 128 < k {
+    if MOST_BLOCKS < k {
         return Verdict {
             number: 12,
             place: 0,
         };
     }
-    let verdict = judged(sizes, k, block, 0, 15);
+    let verdict = judged(sizes, k - 1, block, 0, 15);
     if verdict.number != 0 {
         return verdict;
     }

@@ -26,8 +26,8 @@ here c =
     let ws = now (c .before .before .before .before .before .args .words) in
     let j = c .before .before .before .loop .j in
     c .judged .ensures
-    ∙ ap (λ (z : Sizes). judged z (j + 1) (c .before .block-at .result) (block-start j) (length ws)) (c .before .before .before .loop .inv .0)
-    ∙ ap (λ (b : Block). judged (sizes-in ws) (j + 1) b (block-start j) (length ws)) (c .before .block-at .ensures)
+    ∙ ap (λ (z : Sizes). judged z j (c .before .block-at .result) (block-start j) (length ws)) (c .before .before .before .loop .inv .0)
+    ∙ ap (λ (b : Block). judged (sizes-in ws) j b (block-start j) (length ws)) (c .before .block-at .ensures)
     ∙ block-judged ws j
 
 loop-holds : tie.Need-loop-holds Inv-loop μ-loop
@@ -41,9 +41,6 @@ add-at c = omega arith
 
 block-at-requires : tie.Need-block-at-requires Inv-loop μ-loop
 block-at-requires c κs = omega arith
-
-add-judged : tie.Need-add-judged Inv-loop μ-loop
-add-judged c = omega arith
 
 judged-requires : tie.Need-judged-requires Inv-loop μ-loop
 judged-requires c κs = omega arith
@@ -73,7 +70,6 @@ blocks-spec =
     mul-at
     add-at
     block-at-requires
-    add-judged
     judged-requires
     returns
     add-j

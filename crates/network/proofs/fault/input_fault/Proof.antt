@@ -1,43 +1,63 @@
--- `network::fault::input_fault` meets its contract. Assumes nothing.
+-- `network::fault::input_fault` meets its contract, its tests being those of the definition. Assumes nothing.
 use borrow.Author.Needs.{needs}
 use mathlib.Core.Path.{_≡_, refl, sym, ap, _∙_}
 use Rattle.network.proofs.Faults.{input-fixed, input-coil, input-discrete, input-output}
 use Rattle.network.proofs.fault.input_fault.Statement.{statement}
 use Rattle.network.proofs.fault.input_fault.Tie as tie
 
-none-fault-requires : tie.Need-none-fault-requires
-none-fault-requires c κs = search needs
+cast-number : tie.Need-cast-number
+cast-number c = search needs
+
+up-to-requires : tie.Need-up-to-requires
+up-to-requires c κs = search needs
 
 returns : tie.Need-returns
-returns c = let x = c .before .before .args in c .none-fault .ensures ∙ sym (input-fixed (x .sizes) (x .k) (x .input) (c .before .if1 .taken))
+returns c = let x = c .before .before .before .args in c .up-to .ensures ∙ sym (input-fixed (x .sizes) (x .earlier) (x .input) (c .before .if1 .taken))
 
-contact-fault-requires : tie.Need-contact-fault-requires
-contact-fault-requires c κs = search needs
+cast-counted : tie.Need-cast-counted
+cast-counted c = search needs
+
+mul-counted : tie.Need-mul-counted
+mul-counted c = search needs
+
+counted-requires : tie.Need-counted-requires
+counted-requires c κs = search needs
 
 returns-2 : tie.Need-returns-2
-returns-2 c = let x = c .before .before .before .args in c .contact-fault .ensures ∙ sym (input-coil (x .sizes) (x .k) (x .input) (c .before .before .if1 .left) (c .before .if2 .taken))
+returns-2 c = let x = c .before .before .before .before .before .args in c .counted .ensures ∙ sym (input-coil (x .sizes) (x .earlier) (x .input) (c .before .before .before .if1 .left) (c .before .before .if2 .taken))
 
-contact-fault-requires-2 : tie.Need-contact-fault-requires-2
-contact-fault-requires-2 c κs = search needs
+cast-counted-2 : tie.Need-cast-counted-2
+cast-counted-2 c = search needs
+
+mul-counted-2 : tie.Need-mul-counted-2
+mul-counted-2 c = search needs
+
+counted-requires-2 : tie.Need-counted-requires-2
+counted-requires-2 c κs = search needs
 
 returns-3 : tie.Need-returns-3
-returns-3 c = let x = c .before .before .before .before .args in c .contact-fault2 .ensures ∙ sym (input-discrete (x .sizes) (x .k) (x .input) (c .before .before .if2 .left) (c .before .if3 .taken))
+returns-3 c = let x = c .before .before .before .before .before .before .args in c .counted2 .ensures ∙ sym (input-discrete (x .sizes) (x .earlier) (x .input) (c .before .before .before .if2 .left) (c .before .before .if3 .taken))
 
-earlier-fault-requires : tie.Need-earlier-fault-requires
-earlier-fault-requires c κs = search needs
+counted-requires-3 : tie.Need-counted-requires-3
+counted-requires-3 c κs = search needs
 
 returns-4 : tie.Need-returns-4
-returns-4 c = let x = c .before .before .before .before .args in c .earlier-fault .ensures ∙ sym (input-output (x .sizes) (x .k) (x .input) (c .before .if3 .left))
+returns-4 c = let x = c .before .before .before .before .before .args in c .counted3 .ensures ∙ sym (input-output (x .sizes) (x .earlier) (x .input) (c .before .if3 .left))
 
 pub input-fault-spec : {M : Type 1} → statement M
 input-fault-spec =
     tie.close
     (tie.spec
-    none-fault-requires
+    cast-number
+    up-to-requires
     returns
-    contact-fault-requires
+    cast-counted
+    mul-counted
+    counted-requires
     returns-2
-    contact-fault-requires-2
+    cast-counted-2
+    mul-counted-2
+    counted-requires-2
     returns-3
-    earlier-fault-requires
+    counted-requires-3
     returns-4)

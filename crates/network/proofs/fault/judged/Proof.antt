@@ -11,17 +11,17 @@ use Rattle.network.proofs.fault.judged.Statement.{statement}
 use Rattle.network.proofs.fault.judged.Tie as tie
 
 abbrev Inv-loop : tie.InvT-loop
-Inv-loop sizes k block at size q₀ q = Reached (λ i. word-fault sizes k block (i - at)) size at 15 q
+Inv-loop sizes earlier block at size q₀ q = Reached (λ i. word-fault sizes earlier block (i - at)) size at 15 q
 
 abbrev μ-loop : tie.MeasureT-loop
-μ-loop sizes k block at size q₀ q = 15 - q
+μ-loop sizes earlier block at size q₀ q = 15 - q
 
 -- the word that was judged is word q of the record
 here : (c : tie.After-word-fault Inv-loop μ-loop) → let x = c .before .before .before .before .args in
-    c .word-fault .result ≡ word-fault (x .sizes) (x .k) (x .block) (x .at + c .before .before .before .loop .q - x .at)
+    c .word-fault .result ≡ word-fault (x .sizes) (x .earlier) (x .block) (x .at + c .before .before .before .loop .q - x .at)
 here c =
     let x = c .before .before .before .before .args in
-    c .word-fault .ensures ∙ ap (word-fault (x .sizes) (x .k) (x .block)) (sym (add-sub-cancel-left (x .at) (c .before .before .before .loop .q)))
+    c .word-fault .ensures ∙ ap (word-fault (x .sizes) (x .earlier) (x .block)) (sym (add-sub-cancel-left (x .at) (c .before .before .before .loop .q)))
 
 loop-holds : tie.Need-loop-holds Inv-loop μ-loop
 loop-holds c = begun _ _ _ _

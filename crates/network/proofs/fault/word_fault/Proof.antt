@@ -1,13 +1,19 @@
--- `network::fault::word_fault` meets its contract. Assumes nothing.
+-- `network::fault::word_fault` meets its contract, arm by arm. Assumes nothing.
 use borrow.Author.Needs.{needs}
 use native.Mathlib.Omega.{arith}
 use mathlib.Core.Path.{_≡_, refl, sym, ap, _∙_}
 use Prim.Native.Nat.{ℕ, zero, suc, _+_, _<_}
+use Rattle.network.specs.declared.sizes.Sizes.{Sizes}
 use Rattle.network.specs.declared.rules.Rule.{Rule}
-use Rattle.network.specs.Fault.{length-fault, class-fault, number-fault, top-words, word-fault}
+use Rattle.network.specs.declared.block.Block.{Block}
+use Rattle.network.specs.Fault.{counted, class-fault, number-fault, top-words, word-fault}
 use Rattle.network.proofs.Faults.{none-below, word-fault-past}
 use Rattle.network.proofs.fault.word_fault.Statement.{statement}
 use Rattle.network.proofs.fault.word_fault.Tie as tie
+
+-- an arm's word is word q
+arm : (z : Sizes) (earlier : ℕ) (b : Block) {r i q : ℕ} → r ≡ word-fault z earlier b i → q ≡ i → r ≡ word-fault z earlier b q
+arm z earlier b e p = e ∙ ap (word-fault z earlier b) (sym p)
 
 -- the last arm is for no word of the record
 other : (c : tie.At-match-rest) (i : ℕ) → i < 15 → c .before .before .before .before .args .q ≡ i → ⊥
@@ -31,11 +37,20 @@ other c (suc (suc (suc (suc (suc (suc (suc (suc (suc (suc (suc (suc (suc (suc (s
 rule-of-requires : tie.Need-rule-of-requires
 rule-of-requires c κs = search needs
 
-kind-fault-requires : tie.Need-kind-fault-requires
-kind-fault-requires c κs = search needs
+cast-counted : tie.Need-cast-counted
+cast-counted c = search needs
 
-length-fault-requires : tie.Need-length-fault-requires
-length-fault-requires c κs = search needs
+counted-requires : tie.Need-counted-requires
+counted-requires c κs = search needs
+
+cast-counted-2 : tie.Need-cast-counted-2
+cast-counted-2 c = search needs
+
+cast-counted-3 : tie.Need-cast-counted-3
+cast-counted-3 c = search needs
+
+counted-requires-2 : tie.Need-counted-requires-2
+counted-requires-2 c κs = search needs
 
 class-fault-requires : tie.Need-class-fault-requires
 class-fault-requires c κs = search needs
@@ -64,156 +79,142 @@ add-number-fault c = search needs
 number-fault-requires-2 : tie.Need-number-fault-requires-2
 number-fault-requires-2 c κs = omega arith
 
-code-fault-requires : tie.Need-code-fault-requires
-code-fault-requires c κs = search needs
+cast-up-to : tie.Need-cast-up-to
+cast-up-to c = search needs
+
+up-to-requires : tie.Need-up-to-requires
+up-to-requires c κs = search needs
 
 input-fault-requires : tie.Need-input-fault-requires
 input-fault-requires c κs = search needs
 
-code-fault-requires-2 : tie.Need-code-fault-requires-2
-code-fault-requires-2 c κs = search needs
+cast-up-to-2 : tie.Need-cast-up-to-2
+cast-up-to-2 c = search needs
+
+up-to-requires-2 : tie.Need-up-to-requires-2
+up-to-requires-2 c κs = search needs
 
 input-fault-requires-2 : tie.Need-input-fault-requires-2
 input-fault-requires-2 c κs = search needs
 
-code-fault-requires-3 : tie.Need-code-fault-requires-3
-code-fault-requires-3 c κs = search needs
+cast-up-to-3 : tie.Need-cast-up-to-3
+cast-up-to-3 c = search needs
+
+up-to-requires-3 : tie.Need-up-to-requires-3
+up-to-requires-3 c κs = search needs
 
 input-fault-requires-3 : tie.Need-input-fault-requires-3
 input-fault-requires-3 c κs = search needs
 
-coil-fault-requires : tie.Need-coil-fault-requires
-coil-fault-requires c κs = search needs
+cast-up-to-4 : tie.Need-cast-up-to-4
+cast-up-to-4 c = search needs
 
-coil-fault-requires-2 : tie.Need-coil-fault-requires-2
-coil-fault-requires-2 c κs = search needs
+mul-up-to : tie.Need-mul-up-to
+mul-up-to c = search needs
 
-coil-fault-requires-3 : tie.Need-coil-fault-requires-3
-coil-fault-requires-3 c κs = search needs
+cast-up-to-5 : tie.Need-cast-up-to-5
+cast-up-to-5 c = search needs
+
+up-to-requires-4 : tie.Need-up-to-requires-4
+up-to-requires-4 c κs = search needs
+
+cast-up-to-6 : tie.Need-cast-up-to-6
+cast-up-to-6 c = search needs
+
+mul-up-to-2 : tie.Need-mul-up-to-2
+mul-up-to-2 c = search needs
+
+cast-up-to-7 : tie.Need-cast-up-to-7
+cast-up-to-7 c = search needs
+
+up-to-requires-5 : tie.Need-up-to-requires-5
+up-to-requires-5 c κs = search needs
+
+cast-up-to-8 : tie.Need-cast-up-to-8
+cast-up-to-8 c = search needs
+
+mul-up-to-3 : tie.Need-mul-up-to-3
+mul-up-to-3 c = search needs
+
+cast-up-to-9 : tie.Need-cast-up-to-9
+cast-up-to-9 c = search needs
+
+up-to-requires-6 : tie.Need-up-to-requires-6
+up-to-requires-6 c κs = search needs
 
 returns : tie.Need-returns
 unfolding word-fault
-returns c =
-    let x = c .before .before .before .before .before .args in
-    c .kind-fault .ensures
-    ∙ ap (word-fault (x .sizes) (x .k) (x .block)) (sym (c .before .match .keys1))
+returns c = let x = c .before .before .before .before .before .before .args in arm (x .sizes) (x .earlier) (x .block) (c .counted .ensures) (c .before .before .match .keys1)
 
 returns-2 : tie.Need-returns-2
 unfolding word-fault
-returns-2 c =
-    let x = c .before .before .before .before .before .args in
-    c .length-fault .ensures
-    ∙ ap (λ (r : Rule). length-fault (r .most) (x .block .n)) (c .before .before .before .before .rule-of .ensures)
-    ∙ ap (word-fault (x .sizes) (x .k) (x .block)) (sym (c .before .match .keys2))
+returns-2 c = let x = c .before .before .before .before .before .before .before .args in arm (x .sizes) (x .earlier) (x .block) (c .counted2 .ensures ∙ ap (λ (r : Rule). counted (r .most) (x .block .n) 5) (c .before .before .before .before .before .before .rule-of .ensures)) (c .before .before .before .match .keys2)
 
 returns-3 : tie.Need-returns-3
 unfolding word-fault
-returns-3 c =
-    let x = c .before .before .before .before .before .args in
-    c .class-fault .ensures
-    ∙ ap (λ (r : Rule). class-fault (r .top) (x .block .top .class)) (c .before .before .before .before .rule-of .ensures)
-    ∙ ap (word-fault (x .sizes) (x .k) (x .block)) (sym (c .before .match .keys3))
+returns-3 c = let x = c .before .before .before .before .before .args in arm (x .sizes) (x .earlier) (x .block) (c .class-fault .ensures ∙ ap (λ (r : Rule). class-fault (r .top) (x .block .top .class)) (c .before .before .before .before .rule-of .ensures)) (c .before .match .keys3)
 
 returns-4 : tie.Need-returns-4
 unfolding word-fault
-returns-4 c =
-    let x = c .before .before .before .before .before .before .args in
-    c .number-fault .ensures
-    ∙ ap (number-fault (x .sizes) (x .block .top)) (c .before .top-words .ensures)
-    ∙ ap (λ (r : Rule). number-fault (x .sizes) (x .block .top) (top-words (r .pointer) (x .block .n))) (c .before .before .before .before .before .rule-of .ensures)
-    ∙ ap (word-fault (x .sizes) (x .k) (x .block)) (sym (c .before .before .match .keys4))
+returns-4 c = let x = c .before .before .before .before .before .before .args in arm (x .sizes) (x .earlier) (x .block) (c .number-fault .ensures ∙ ap (number-fault (x .sizes) (x .block .top)) (c .before .top-words .ensures) ∙ ap (λ (r : Rule). number-fault (x .sizes) (x .block .top) (top-words (r .pointer) (x .block .n))) (c .before .before .before .before .before .rule-of .ensures)) (c .before .before .match .keys4)
 
 returns-5 : tie.Need-returns-5
 unfolding word-fault
-returns-5 c =
-    let x = c .before .before .before .before .before .args in
-    c .class-fault2 .ensures
-    ∙ ap (λ (r : Rule). class-fault (r .middle) (x .block .middle .class)) (c .before .before .before .before .rule-of .ensures)
-    ∙ ap (word-fault (x .sizes) (x .k) (x .block)) (sym (c .before .match .keys5))
+returns-5 c = let x = c .before .before .before .before .before .args in arm (x .sizes) (x .earlier) (x .block) (c .class-fault2 .ensures ∙ ap (λ (r : Rule). class-fault (r .middle) (x .block .middle .class)) (c .before .before .before .before .rule-of .ensures)) (c .before .match .keys5)
 
 returns-6 : tie.Need-returns-6
 unfolding word-fault
-returns-6 c =
-    let x = c .before .before .before .before .before .before .before .args in
-    c .number-fault2 .ensures
-    ∙ ap (λ (r : Rule). number-fault (x .sizes) (x .block .middle) (x .block .n + r .extra)) (c .before .before .before .before .before .before .rule-of .ensures)
-    ∙ ap (word-fault (x .sizes) (x .k) (x .block)) (sym (c .before .before .before .match .keys6))
+returns-6 c = let x = c .before .before .before .before .before .before .before .args in arm (x .sizes) (x .earlier) (x .block) (c .number-fault2 .ensures ∙ ap (λ (r : Rule). number-fault (x .sizes) (x .block .middle) (x .block .n + r .extra)) (c .before .before .before .before .before .before .rule-of .ensures)) (c .before .before .before .match .keys6)
 
 returns-7 : tie.Need-returns-7
 unfolding word-fault
-returns-7 c =
-    let x = c .before .before .before .before .before .args in
-    c .code-fault .ensures
-    ∙ ap (word-fault (x .sizes) (x .k) (x .block)) (sym (c .before .match .keys7))
+returns-7 c = let x = c .before .before .before .before .before .before .args in arm (x .sizes) (x .earlier) (x .block) (c .up-to .ensures) (c .before .before .match .keys7)
 
 returns-8 : tie.Need-returns-8
 unfolding word-fault
-returns-8 c =
-    let x = c .before .before .before .before .before .args in
-    c .input-fault .ensures
-    ∙ ap (word-fault (x .sizes) (x .k) (x .block)) (sym (c .before .match .keys8))
+returns-8 c = let x = c .before .before .before .before .before .args in arm (x .sizes) (x .earlier) (x .block) (c .input-fault .ensures) (c .before .match .keys8)
 
 returns-9 : tie.Need-returns-9
 unfolding word-fault
-returns-9 c =
-    let x = c .before .before .before .before .before .args in
-    c .code-fault2 .ensures
-    ∙ ap (word-fault (x .sizes) (x .k) (x .block)) (sym (c .before .match .keys9))
+returns-9 c = let x = c .before .before .before .before .before .before .args in arm (x .sizes) (x .earlier) (x .block) (c .up-to2 .ensures) (c .before .before .match .keys9)
 
 returns-10 : tie.Need-returns-10
 unfolding word-fault
-returns-10 c =
-    let x = c .before .before .before .before .before .args in
-    c .input-fault2 .ensures
-    ∙ ap (word-fault (x .sizes) (x .k) (x .block)) (sym (c .before .match .keys10))
+returns-10 c = let x = c .before .before .before .before .before .args in arm (x .sizes) (x .earlier) (x .block) (c .input-fault2 .ensures) (c .before .match .keys10)
 
 returns-11 : tie.Need-returns-11
 unfolding word-fault
-returns-11 c =
-    let x = c .before .before .before .before .before .args in
-    c .code-fault3 .ensures
-    ∙ ap (word-fault (x .sizes) (x .k) (x .block)) (sym (c .before .match .keys11))
+returns-11 c = let x = c .before .before .before .before .before .before .args in arm (x .sizes) (x .earlier) (x .block) (c .up-to3 .ensures) (c .before .before .match .keys11)
 
 returns-12 : tie.Need-returns-12
 unfolding word-fault
-returns-12 c =
-    let x = c .before .before .before .before .before .args in
-    c .input-fault3 .ensures
-    ∙ ap (word-fault (x .sizes) (x .k) (x .block)) (sym (c .before .match .keys12))
+returns-12 c = let x = c .before .before .before .before .before .args in arm (x .sizes) (x .earlier) (x .block) (c .input-fault3 .ensures) (c .before .match .keys12)
 
 returns-13 : tie.Need-returns-13
 unfolding word-fault
-returns-13 c =
-    let x = c .before .before .before .before .before .args in
-    c .coil-fault .ensures
-    ∙ ap (word-fault (x .sizes) (x .k) (x .block)) (sym (c .before .match .keys13))
+returns-13 c = let x = c .before .before .before .before .before .before .before .args in arm (x .sizes) (x .earlier) (x .block) (c .up-to4 .ensures) (c .before .before .before .match .keys13)
 
 returns-14 : tie.Need-returns-14
 unfolding word-fault
-returns-14 c =
-    let x = c .before .before .before .before .before .args in
-    c .coil-fault2 .ensures
-    ∙ ap (word-fault (x .sizes) (x .k) (x .block)) (sym (c .before .match .keys14))
+returns-14 c = let x = c .before .before .before .before .before .before .before .args in arm (x .sizes) (x .earlier) (x .block) (c .up-to5 .ensures) (c .before .before .before .match .keys14)
 
 returns-15 : tie.Need-returns-15
 unfolding word-fault
-returns-15 c =
-    let x = c .before .before .before .before .before .args in
-    c .coil-fault3 .ensures
-    ∙ ap (word-fault (x .sizes) (x .k) (x .block)) (sym (c .before .match .keys15))
+returns-15 c = let x = c .before .before .before .before .before .before .before .args in arm (x .sizes) (x .earlier) (x .block) (c .up-to6 .ensures) (c .before .before .before .match .keys15)
 
 returns-16 : tie.Need-returns-16
-returns-16 c =
-    let x = c .before .before .before .before .args in
-    sym (word-fault-past (x .sizes) (x .k) (x .block) (x .q) (none-below 15 (x .q) (other c)))
+returns-16 c = let x = c .before .before .before .before .args in sym (word-fault-past (x .sizes) (x .earlier) (x .block) (x .q) (none-below 15 (x .q) (other c)))
 
 pub word-fault-spec : {M : Type 1} → statement M
 word-fault-spec =
     tie.close
     (tie.spec
     rule-of-requires
-    kind-fault-requires
-    length-fault-requires
+    cast-counted
+    counted-requires
+    cast-counted-2
+    cast-counted-3
+    counted-requires-2
     class-fault-requires
     top-words-requires
     cast-number-fault
@@ -223,15 +224,27 @@ word-fault-spec =
     cast-number-fault-3
     add-number-fault
     number-fault-requires-2
-    code-fault-requires
+    cast-up-to
+    up-to-requires
     input-fault-requires
-    code-fault-requires-2
+    cast-up-to-2
+    up-to-requires-2
     input-fault-requires-2
-    code-fault-requires-3
+    cast-up-to-3
+    up-to-requires-3
     input-fault-requires-3
-    coil-fault-requires
-    coil-fault-requires-2
-    coil-fault-requires-3
+    cast-up-to-4
+    mul-up-to
+    cast-up-to-5
+    up-to-requires-4
+    cast-up-to-6
+    mul-up-to-2
+    cast-up-to-7
+    up-to-requires-5
+    cast-up-to-8
+    mul-up-to-3
+    cast-up-to-9
+    up-to-requires-6
     returns
     returns-2
     returns-3

@@ -1,0 +1,205 @@
+-- What acceptance gives for each kind: the row of a kind says which classes its nodes may have, and a node of such a class
+-- that is placed lies in the table. Assumes nothing.
+use mathlib.Core.Path.{_≡_, refl, sym, ap, ap₂, _∙_, subst}
+use mathlib.Core.Bool.{Bool, true, false, cond, false≢true, _||_}
+use mathlib.Core.Logic.{_⊎_, inl, inr, ⊎-elim}
+use Prim.Native.Nat.{ℕ, zero, suc, _+_, _≤_, _<_}
+use native.Mathlib.Decide.{ℕ-discrete}
+use native.Mathlib.Omega.{arith}
+use borrow.Author.Tests.{eq-eqb, ne-eqb}
+use lib.Dec.{eqb}
+use Rattle.network.specs.declared.sizes.Sizes.{Sizes}
+use Rattle.network.specs.declared.rules.Classes.{Classes}
+use Rattle.network.specs.declared.rules.Rule.{Rule}
+use Rattle.network.specs.declared.block.Node.{Node}
+use Rattle.network.specs.declared.block.Block.{Block}
+use Rattle.network.specs.Table.{total, area, size-of, before, offset, start-of}
+use Rattle.network.specs.Rules.{any-matrix, written, held, pointers, row, rule, allows}
+use Rattle.network.specs.Fault.{top-words}
+use Rattle.network.specs.Sound.{Placed, GoodNode, GoodBlock}
+use Rattle.network.specs.Kinds.{Lies, Writable, TwoMatrices, Compared, Pointed, KindFacts, AcceptedMeans}
+use Rattle.network.proofs.Parts.{area-within}
+
+-- ---- the classes of a node
+data Class (class : ℕ) : Type 0 where
+  a-coil : class ≡ 0 → Class class
+  a-discrete : class ≡ 1 → Class class
+  an-input : class ≡ 3 → Class class
+  a-holding : class ≡ 4 → Class class
+  a-constant : class ≡ 9 → Class class
+
+known : (c : Classes) (class : ℕ) → allows c class ≡ true → Class class
+unfolding allows
+known c class e = elim (ℕ-discrete class 0) [
+  | yes p ↦ a-coil p
+  | no p ↦ elim (ℕ-discrete class 1) [
+    | yes q ↦ a-discrete q
+    | no q ↦ elim (ℕ-discrete class 3) [
+      | yes r ↦ an-input r
+      | no r ↦ elim (ℕ-discrete class 4) [
+        | yes s ↦ a-holding s
+        | no s ↦ elim (ℕ-discrete class 9) [
+          | yes t ↦ a-constant t
+          | no t ↦ absurd (false≢true (sym (none p q r s t) ∙ e))
+        ]
+      ]
+    ]
+  ]
+]
+  where
+    none : (class ≡ 0 → ⊥) → (class ≡ 1 → ⊥) → (class ≡ 3 → ⊥) → (class ≡ 4 → ⊥) → (class ≡ 9 → ⊥) → allows c class ≡ false
+    none p q r s t = simp (ne-eqb class 0 p, ne-eqb class 1 q, ne-eqb class 3 r, ne-eqb class 4 s, ne-eqb class 9 t)
+
+-- a class that is allowed at a row's value of it
+at : (c : Classes) {class : ℕ} (k : ℕ) → class ≡ k → allows c class ≡ true → allows c k ≡ true
+at c k p e = subst (λ (x : ℕ). allows c x ≡ true) p e
+
+area-at : {class : ℕ} (k : ℕ) → class ≡ k → area k ≡ true → area class ≡ true
+area-at k p e = subst (λ (x : ℕ). area x ≡ true) (sym p) e
+
+-- a node that may be any matrix, or one that is written, is in an area and no constant
+record InArea (class : ℕ) : Type 0 where
+  is-area : area class ≡ true
+  no-constant : class ≡ 9 → ⊥
+
+any-area : (class : ℕ) → allows any-matrix class ≡ true → InArea class
+unfolding allows
+any-area class e = go (known any-matrix class e)
+  where
+    go : Class class → InArea class
+    go (a-coil p) = record { is-area = area-at 0 p refl; no-constant = λ q. omega arith }
+    go (a-discrete p) = record { is-area = area-at 1 p refl; no-constant = λ q. omega arith }
+    go (an-input p) = record { is-area = area-at 3 p refl; no-constant = λ q. omega arith }
+    go (a-holding p) = record { is-area = area-at 4 p refl; no-constant = λ q. omega arith }
+    go (a-constant p) = absurd (false≢true (at any-matrix 9 p e))
+
+written-class : (class : ℕ) → allows written class ≡ true → (class ≡ 0) ⊎ (class ≡ 4)
+unfolding allows
+written-class class e = go (known written class e)
+  where
+    go : Class class → (class ≡ 0) ⊎ (class ≡ 4)
+    go (a-coil p) = inl p
+    go (a-discrete p) = absurd (false≢true (at written 1 p e))
+    go (an-input p) = absurd (false≢true (at written 3 p e))
+    go (a-holding p) = inr p
+    go (a-constant p) = absurd (false≢true (at written 9 p e))
+
+held-class : (class : ℕ) → allows held class ≡ true → class ≡ 4
+unfolding allows
+held-class class e = go (known held class e)
+  where
+    go : Class class → class ≡ 4
+    go (a-coil p) = absurd (false≢true (at held 0 p e))
+    go (a-discrete p) = absurd (false≢true (at held 1 p e))
+    go (an-input p) = absurd (false≢true (at held 3 p e))
+    go (a-holding p) = p
+    go (a-constant p) = absurd (false≢true (at held 9 p e))
+
+pointer-class : (class : ℕ) → allows pointers class ≡ true → (class ≡ 9) ⊎ ((class ≡ 3) ⊎ (class ≡ 4))
+unfolding allows
+pointer-class class e = go (known pointers class e)
+  where
+    go : Class class → (class ≡ 9) ⊎ ((class ≡ 3) ⊎ (class ≡ 4))
+    go (a-coil p) = absurd (false≢true (at pointers 0 p e))
+    go (a-discrete p) = absurd (false≢true (at pointers 1 p e))
+    go (an-input p) = inr (inl p)
+    go (a-holding p) = inr (inr p)
+    go (a-constant p) = inl p
+
+of-written : (class : ℕ) → (class ≡ 0) ⊎ (class ≡ 4) → InArea class
+of-written class = ⊎-elim
+    (λ p. record { is-area = area-at 0 p refl; no-constant = λ q. omega arith })
+    (λ p. record { is-area = area-at 4 p refl; no-constant = λ q. omega arith })
+
+-- ---- a node that is placed in an area lies in the table
+lies : (z : Sizes) (node : Node) (words : ℕ) → area (node .class) ≡ true → Placed z (node .class) (node .number) words → Lies z node words
+unfolding start-of
+lies z node words a p = omega (arith, p .inside, area-within z (node .class) a)
+
+in-area : (z : Sizes) (classes : Classes) (node : Node) (words : ℕ) → GoodNode z classes node words → InArea (node .class) → Lies z node words
+in-area z classes node words g a = lies z node words (a .is-area) (g .placed (a .no-constant))
+
+-- ---- the facts of a record whose kind's row is known
+module _ (z : Sizes) (earlier : ℕ) (b : Block) (g : GoodBlock z earlier b) where
+  two-matrices : rule (b .kind) ≡ row any-matrix written 100 0 false → TwoMatrices z b
+  two-matrices e =
+      let top : GoodNode z any-matrix (b .top) (b .n) =
+      subst (λ (r : Rule). GoodNode z (r .top) (b .top) (top-words (r .pointer) (b .n))) e (g .top-node) in
+      let middle : GoodNode z written (b .middle) (b .n + 0) =
+      subst (λ (r : Rule). GoodNode z (r .middle) (b .middle) (b .n + r .extra)) e (g .middle-node) in
+      let w = written-class (b .middle .class) (middle .class-allowed) in
+      record {
+        some = g .length-low;
+        few = subst (λ (r : Rule). b .n ≤ r .most) e (g .length-high);
+        source = in-area z any-matrix (b .top) (b .n) top (any-area (b .top .class) (top .class-allowed));
+        destination = plus-none (in-area z written (b .middle) (b .n + 0) middle (of-written (b .middle .class) w));
+        writable = w;
+      }
+    where
+      plus-none : Lies z (b .middle) (b .n + 0) → Lies z (b .middle) (b .n)
+      plus-none l = omega arith
+
+  compared : rule (b .kind) ≡ row any-matrix held 100 1 false → Compared z b
+  compared e =
+      let top : GoodNode z any-matrix (b .top) (b .n) =
+      subst (λ (r : Rule). GoodNode z (r .top) (b .top) (top-words (r .pointer) (b .n))) e (g .top-node) in
+      let middle : GoodNode z held (b .middle) (b .n + 1) =
+      subst (λ (r : Rule). GoodNode z (r .middle) (b .middle) (b .n + r .extra)) e (g .middle-node) in
+      let h = held-class (b .middle .class) (middle .class-allowed) in
+      record {
+        some = g .length-low;
+        few = subst (λ (r : Rule). b .n ≤ r .most) e (g .length-high);
+        source = in-area z any-matrix (b .top) (b .n) top (any-area (b .top .class) (top .class-allowed));
+        held = h;
+        pointer-and-matrix = in-area z held (b .middle) (b .n + 1) middle (of-written (b .middle .class) (inr h));
+      }
+
+  pointed : (c : Classes) → ((class : ℕ) → allows c class ≡ true → InArea class) → rule (b .kind) ≡ row pointers c 255 0 true → Pointed z b
+  pointed c areas e =
+      let top : GoodNode z pointers (b .top) 1 =
+      subst (λ (r : Rule). GoodNode z (r .top) (b .top) (top-words (r .pointer) (b .n))) e (g .top-node) in
+      let middle : GoodNode z c (b .middle) (b .n + 0) =
+      subst (λ (r : Rule). GoodNode z (r .middle) (b .middle) (b .n + r .extra)) e (g .middle-node) in
+      let p = pointer-class (b .top .class) (top .class-allowed) in
+      record {
+        some = g .length-low;
+        few = subst (λ (r : Rule). b .n ≤ r .most) e (g .length-high);
+        constant = top .constant;
+        register = λ h. lies z (b .top) 1 (⊎-elim (λ q. absurd (h q)) (⊎-elim (λ q. area-at 3 q refl) (λ q. area-at 4 q refl)) p) (top .placed h);
+        pointer = p;
+        matrix = plus-none (in-area z c (b .middle) (b .n + 0) middle (areas (b .middle .class) (middle .class-allowed)));
+      }
+    where
+      plus-none : Lies z (b .middle) (b .n + 0) → Lies z (b .middle) (b .n)
+      plus-none l = omega arith
+
+  row-of : (kind : ℕ) → b .kind ≡ kind → rule (b .kind) ≡ rule kind
+  row-of kind e = ap rule e
+
+  logic-row : (b .kind ≤ 4) ⊎ (b .kind ≡ 8) → rule (b .kind) ≡ row any-matrix written 100 0 false
+  unfolding rule
+  logic-row (inl l) = low (b .kind) (g .kind-low) l
+    where
+      low : (m : ℕ) → 1 ≤ m → m ≤ 4 → rule m ≡ row any-matrix written 100 0 false
+      low zero a u = absurd (omega arith)
+      low (suc zero) a u = refl
+      low (suc (suc zero)) a u = refl
+      low (suc (suc (suc zero))) a u = refl
+      low (suc (suc (suc (suc zero)))) a u = refl
+      low (suc (suc (suc (suc (suc m))))) a u = absurd (omega arith)
+  logic-row (inr e) = row-of 8 e
+
+  facts : KindFacts z b
+  unfolding rule
+  facts = record {
+    two = λ h. two-matrices (logic-row h);
+    compare = λ e. compared (row-of 5 e);
+    modify = λ e. pointed written (λ class a. of-written class (written-class class a)) (row-of 6 e);
+    modified = λ e.
+        written-class (b .middle .class)
+        (subst (λ (r : Rule). allows (r .middle) (b .middle .class) ≡ true) (row-of 6 e) (g .middle-node .class-allowed));
+    sense = λ e. pointed any-matrix any-area (row-of 7 e);
+  }
+
+pub accepted-means : AcceptedMeans
+accepted-means = facts
