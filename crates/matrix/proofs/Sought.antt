@@ -3,7 +3,7 @@
 use mathlib.Core.Path.{_≡_, refl, sym, ap, _∙_, subst}
 use mathlib.Core.Bool.{Bool, true, false, cond, false≢true}
 use mathlib.Core.List.{List}
-use mathlib.Core.Logic.{⊎-elim}
+use mathlib.Core.Logic.{_↔_, ⊎-elim}
 use mathlib.Core.Option.{Option, none, some}
 use Prim.Native.Nat.{ℕ, zero, suc, _+_, _-_, _*_, _≤_, _<_}
 use native.Mathlib.Decide.{ℕ-discrete, decLe}
@@ -78,6 +78,17 @@ module _ (a b : List ℕ) (n above : ℕ) where
   outcome : Outcome (first-differing a b n above)
   unfolding Outcome
   outcome = met (differing a b) (16 * n - above) above
+
+-- nothing is found exactly when no later position differs
+pub none-sought : (a b : List ℕ) (n above : ℕ) → (first-differing a b n above ≡ none) ↔ NoneLater a b n above
+none-sought a b n above = (
+  (λ e. none-later a b n above _ (outcome a b n above) (ap reported e)),
+  (λ h. unreported _ (nothing a b n above _ (outcome a b n above) h)),
+)
+  where
+    unreported : (r : Option ℕ) → reported r ≡ Nothing → r ≡ none
+    unreported none e = refl
+    unreported (some p) e = let z : _≡_ {A = ℕ} 0 1 = cc in absurd (omega arith)
 
 -- ---- the call
 module _ (t : List ℕ) (a b n above : ℕ) where

@@ -1,0 +1,137 @@
+-- P1 to P14 of document 01, one block each, and the points that are easy to get wrong, computed by the definitions: on the
+-- left a block, its table and the power on its inputs, on the right the table that it leaves and its outputs. Assumes nothing.
+use mathlib.Core.Path.{_≡_, refl}
+use mathlib.Core.Bool.{Bool, true, false, xor}
+use mathlib.Core.List.{List, [], _∷_}
+use Prim.Native.Nat.{ℕ}
+use Rattle.bits.specs.Bit.{bit, value, matrix}
+use Rattle.network.specs.declared.sizes.Sizes.{Sizes}
+use Rattle.network.specs.declared.block.Node.{Node}
+use Rattle.network.specs.declared.block.Input.{Input}
+use Rattle.network.specs.declared.block.Coils.{Coils}
+use Rattle.network.specs.declared.block.Block.{Block}
+use Rattle.network.specs.Table.{start-of}
+use Rattle.matrix.specs.Logic.{combined}
+use Rattle.matrix.specs.Search.{first}
+use Rattle.matrix.specs.Move.{moved}
+use Rattle.matrix.specs.Pointer.{reset, in-range, advanced}
+use Rattle.blocks.specs.declared.Power.{Power}
+use Rattle.blocks.specs.Work.{block-outputs, block-table}
+
+-- a table of one word of coils and four holding registers
+abbrev z : Sizes
+z = record { coils = 1; discretes = 0; inputs = 0; holding = 4 }
+
+abbrev never : Input
+never = record { code = 0; number = 0 }
+
+abbrev register : ℕ → Node
+register number = record { class = 4; number = number }
+
+abbrev constant : ℕ → Node
+constant number = record { class = 9; number = number }
+
+abbrev coils : ℕ → ℕ → ℕ → Coils
+coils top middle bottom = record { top = top; middle = middle; bottom = bottom }
+
+abbrev block : ℕ → ℕ → Node → Node → Coils → Block
+block kind n top middle named =
+    record { kind = kind; n = n; top = top; middle = middle; inputs = record { top = never; middle = never; bottom = never }; coils = named }
+
+-- a block without coils, of two nodes; one from 40001 to 40002; one whose coils are 1, 2 and 3
+abbrev plain : ℕ → ℕ → Node → Node → Block
+plain kind n top middle = block kind n top middle (coils 0 0 0)
+
+abbrev usual : ℕ → ℕ → Block
+usual kind n = plain kind n (register 1) (register 2)
+
+abbrev coiled : ℕ → ℕ → Block
+coiled kind n = block kind n (register 1) (register 2) (coils 1 2 3)
+
+abbrev power : Bool → Bool → Bool → Power
+power top middle bottom = record { top = top; middle = middle; bottom = bottom }
+
+abbrev top-only : Power
+top-only = power true false false
+
+abbrev does : Block → List ℕ → Power → List ℕ × Power
+does b t on = (block-table z b t on, block-outputs z b t on)
+
+abbrev table : ℕ → ℕ → ℕ → ℕ → ℕ → List ℕ
+table c a b d e = c ∷ a ∷ b ∷ d ∷ e ∷ []
+
+-- P1 to P14; P10 with and without wrap
+pub examples :
+    _≡_ {A = List (List ℕ × Power)}
+    (does (usual 1 1) (table 0 0x3000 0x5000 0 0) top-only
+    ∷ does (usual 2 1) (table 0 0x3000 0x5000 0 0) top-only
+    ∷ does (usual 3 1) (table 0 0x3000 0x5000 0 0) top-only
+    ∷ does (usual 4 1) (table 0 0x3000 0x5000 0 0) top-only
+    ∷ does (usual 5 1) (table 0 0x8001 0 0x0000 0) top-only
+    ∷ does (usual 5 1) (table 0 0x8001 1 0x0000 0) top-only
+    ∷ does (usual 5 1) (table 0 0x8001 16 0x0000 0) top-only
+    ∷ does (usual 5 1) (table 0 0x0000 0 0x4000 0) top-only
+    ∷ does (usual 5 1) (table 0 0x0000 2 0x4000 0) top-only
+    ∷ does (usual 8 1) (table 0 0x0001 0x5555 0 0) (power true false true)
+    ∷ does (usual 8 1) (table 0 0x0001 0x5555 0 0) top-only
+    ∷ does (plain 8 2 (register 1) (register 3)) (table 0 0x8000 0x0001 0x5555 0x5555) (power true true true)
+    ∷ does (usual 4 2) (table 0 0x0000 0x0f0f 0x1234 0) top-only
+    ∷ does (usual 6 1) (table 0 16 0x0000 0 0) (power true true true)
+    ∷ does (usual 6 1) (table 0 17 0x0000 0 0) (power true true true)
+    ∷ [])
+    ((table 0 0x3000 0x1000 0 0, power true false false)
+    ∷ (table 0 0x3000 0x7000 0 0, power true false false)
+    ∷ (table 0 0x3000 0x6000 0 0, power true false false)
+    ∷ (table 0 0x3000 0xcfff 0 0, power true false false)
+    ∷ (table 0 0x8001 1 0x0000 0, power true true true)
+    ∷ (table 0 0x8001 16 0x0000 0, power true true true)
+    ∷ (table 0 0x8001 1 0x0000 0, power true true true)
+    ∷ (table 0 0x0000 2 0x4000 0, power true true false)
+    ∷ (table 0 0x0000 16 0x4000 0, power true false false)
+    ∷ (table 0 0x0001 0x8000 0 0, power true true false)
+    ∷ (table 0 0x0001 0x0000 0 0, power true true false)
+    ∷ (table 0 0x8000 0x0001 0x0000 0x0003, power true true false)
+    ∷ (table 0 0x0000 0xffff 0xf0f0 0, power true false false)
+    ∷ (table 0 1 0x0001 0 0, power true true false)
+    ∷ (table 0 17 0x0000 0 0, power true false true)
+    ∷ [])
+unfolding block-table block-outputs combined first moved reset in-range advanced start-of matrix value bit xor
+examples = refl
+
+-- coils without power, with all three outputs on, and with two; a reset without power, and one of a pointer that the source
+-- holds, which is compared as read; MBIT's pointer in its own matrix, without increase and with it; SENS of a constant that is asked to reset and increase,
+-- with reset and increase, at 0, at 16n, over 16n, and reset without power; MBIT at 0 with increase
+pub edges :
+    _≡_ {A = List (List ℕ × Power)}
+    (does (coiled 5 1) (table 0xffff 0x8001 7 0x0000 0) (power false false false)
+    ∷ does (coiled 5 1) (table 0x0000 0x8001 0 0x0000 0) top-only
+    ∷ does (coiled 5 1) (table 0x0000 0x0000 0 0x4000 0) top-only
+    ∷ does (usual 5 1) (table 0 0x8001 7 0x0000 0) (power false true false)
+    ∷ does (plain 5 1 (register 2) (register 2)) (table 0 0 9 0x0000 0) (power true true false)
+    ∷ does (plain 6 1 (register 1) (register 1)) (table 0 3 0 0 0) (power true true false)
+    ∷ does (plain 6 1 (register 1) (register 1)) (table 0 3 0 0 0) (power true true true)
+    ∷ does (plain 7 1 (constant 2) (register 2)) (table 0 0 0x4000 0 0) (power true true true)
+    ∷ does (usual 7 1) (table 0 5 0x8000 0 0) (power true true true)
+    ∷ does (usual 7 1) (table 0 0 0xffff 0 0) (power true true false)
+    ∷ does (usual 7 1) (table 0 16 0x0001 0 0) (power true true false)
+    ∷ does (usual 7 1) (table 0 17 0xffff 0 0) (power true true false)
+    ∷ does (usual 7 1) (table 0 17 0xffff 0 0) (power false true true)
+    ∷ does (usual 6 1) (table 0 0 0x0000 0 0) (power true true true)
+    ∷ [])
+    ((table 0x1fff 0x8001 7 0x0000 0, power false false false)
+    ∷ (table 0xe000 0x8001 1 0x0000 0, power true true true)
+    ∷ (table 0xc000 0x0000 2 0x4000 0, power true true false)
+    ∷ (table 0 0x8001 0 0x0000 0, power false false false)
+    ∷ (table 0 0 13 0x0000 0, power true true true)
+    ∷ (table 0 0x2003 0 0 0, power true true false)
+    ∷ (table 0 4 0 0 0, power true true false)
+    ∷ (table 0 0 0x4000 0 0, power true true false)
+    ∷ (table 0 2 0x8000 0 0, power true true false)
+    ∷ (table 0 1 0xffff 0 0, power true false false)
+    ∷ (table 0 1 0x0001 0 0, power true true false)
+    ∷ (table 0 17 0xffff 0 0, power true false true)
+    ∷ (table 0 1 0xffff 0 0, power false false false)
+    ∷ (table 0 1 0x0000 0 0, power true false false)
+    ∷ [])
+unfolding block-table block-outputs combined first moved reset in-range advanced start-of matrix value bit xor
+edges = refl

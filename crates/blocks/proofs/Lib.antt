@@ -1,0 +1,5 @@
+-- The laws of what is put into a table; what a block writes, the frame and the key rule; when a compare reports none; the examples.
+pub mod Compare
+pub mod Examples
+pub mod Puts
+pub mod Written

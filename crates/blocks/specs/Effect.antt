@@ -1,0 +1,123 @@
+-- What a block is to write, and its two lower outputs, by its kind's rule (document 01, "One scan"): from what it has read and
+-- the power on its inputs. Assumes nothing.
+use Prim.Native.Nat.{ℕ, _+_, _*_}
+use mathlib.Core.Bool.{Bool, true, false, not, cond, _&&_}
+use mathlib.Core.List.{List}
+use mathlib.Core.Option.{Option, none, some}
+use lib.Dec.{eqb, leb, ltb}
+use Rattle.bits.specs.Bit.{bit, matrix}
+use Rattle.matrix.specs.declared.logic.Operation.{Operation}
+use Rattle.matrix.specs.declared.logic.Operation.the-variants.{And, Or, Xor, Comp}
+use Rattle.matrix.specs.declared.pointer.Pointer.{Pointer}
+use Rattle.matrix.specs.Logic.{combined}
+use Rattle.matrix.specs.Search.{first, first-differing}
+use Rattle.matrix.specs.Move.{leaving, moved}
+use Rattle.matrix.specs.Pointer.{reset, in-range, advanced}
+use Rattle.blocks.specs.declared.Power.{Power}
+use Rattle.blocks.specs.Kind.{Kind}
+use Rattle.blocks.specs.Kind.Kind.{AND, OR, XOR, COMP, CMPR, MBIT, SENS, BROT}
+use Rattle.blocks.specs.View.{View}
+
+-- what the destination and the pointer become, none where they stay; the middle and the bottom output
+pub record Effect : Type 0 where
+  pub destination : Option (List ℕ)
+  pub pointer : Option ℕ
+  pub middle : Bool
+  pub bottom : Bool
+
+abbrev pub effect : Option (List ℕ) → Option ℕ → Bool → Bool → Effect
+effect destination pointer middle bottom =
+    record { destination = destination; pointer = pointer; middle = middle; bottom = bottom }
+
+-- nothing is done but that the pointer becomes what a reset makes of it
+abbrev pub idle : Option ℕ → Effect
+idle pointer = effect none pointer false false
+
+-- a pointer into a matrix of n words
+abbrev pub into : ℕ → ℕ → Pointer
+into n at = record { at = at; size = 16 * n }
+
+-- AND, OR, XOR, COMP: the destination's bit becomes the operation on both matrices' bits
+unfoldable pub logic : Operation → ℕ → View → Power → Effect
+unfolding combined
+logic operation n v on =
+    cond (on .top)
+    (effect (some (matrix n (λ p. combined operation (bit (v .source) p) (bit (v .destination) p)))) none false false)
+    (idle none)
+
+-- CMPR. Power on the middle input sets the pointer to 0 first, with or without power on top.
+abbrev pub zeroed : ℕ → View → Power → Pointer
+zeroed n v on = cond (on .middle) (reset (into n (v .pointer)) 0) (into n (v .pointer))
+
+-- Found: the pointer is that position, middle on, bottom shows the source's bit. None: pointer 16n, middle and bottom off.
+unfoldable pub found : ℕ → View → Option ℕ → Effect
+found n v none = effect none (some (16 * n)) false false
+found n v (some p) = effect none (some p) true (bit (v .source) p)
+
+-- With power, a pointer of 16n or more counts as 0, and the first differing position above the pointer is sought.
+unfoldable pub compare : ℕ → View → Power → Effect
+unfolding found first in-range reset
+compare n v on =
+    cond (on .top)
+    (found n v (first-differing (v .source) (v .destination) n (in-range (zeroed n v on) .at)))
+    (idle (cond (on .middle) (some (zeroed n v on .at)) none))
+
+-- BROT: the source moved one position goes to the destination; power on middle means left, power on bottom that the bit
+-- that leaves enters at the other end. Middle output is the bit that left.
+unfoldable pub rotate : ℕ → View → Power → Effect
+unfolding moved
+rotate n v on =
+    cond (on .top)
+    (effect (some (matrix n (moved (on .middle) (on .bottom) (v .source) n))) none (leaving (on .middle) (v .source) n) false)
+    (idle none)
+
+-- increase adds 1, but takes 16n to 1; without it the pointer is as it was left
+abbrev pub increased : Bool → Option ℕ → Pointer → Option ℕ
+increased on left p = cond on (some (advanced p .at)) left
+
+-- MBIT: the bit at the pointer becomes 1 with power on middle, else 0; power on bottom is increase. A pointer of 0 touches no
+-- bit. Only a held pointer, one in class 4, is increased.
+unfoldable pub modify : Bool → ℕ → View → Power → Effect
+unfolding advanced
+modify held n v on =
+    cond (on .top)
+    (cond (ltb (16 * n) (v .pointer))
+    (effect none none false true)
+    (effect
+    (cond (eqb (v .pointer) 0) none (some (matrix n (λ p. cond (eqb p (v .pointer)) (on .middle) (bit (v .destination) p)))))
+    (increased (held && on .bottom) none (into n (v .pointer)))
+    (on .middle && not (eqb (v .pointer) 0))
+    false))
+    (idle none)
+
+-- SENS. Power on the bottom input sets a held pointer to 1 first, with or without power on top; power on middle is increase.
+abbrev pub at-one : Bool → ℕ → View → Power → Pointer
+at-one held n v on = cond (held && on .bottom) (reset (into n (v .pointer)) 1) (into n (v .pointer))
+
+abbrev pub left-at-one : Bool → ℕ → View → Power → Option ℕ
+left-at-one held n v on = cond (held && on .bottom) (some (at-one held n v on .at)) none
+
+-- the middle output is the bit at the pointer
+unfoldable pub sense : Bool → ℕ → View → Power → Effect
+unfolding reset advanced
+sense held n v on =
+    cond (on .top)
+    (cond (ltb (16 * n) (at-one held n v on .at))
+    (effect none (left-at-one held n v on) false true)
+    (effect none
+    (increased (held && on .middle) (left-at-one held n v on) (at-one held n v on))
+    (bit (v .source) (at-one held n v on .at))
+    false))
+    (idle (left-at-one held n v on))
+
+-- the rule of each kind; a pointer is held or not
+unfoldable pub effect-of : Kind → Bool → ℕ → View → Power → Effect
+unfolding logic compare rotate modify sense
+effect-of AND held n v on = logic And n v on
+effect-of OR held n v on = logic Or n v on
+effect-of XOR held n v on = logic Xor n v on
+effect-of COMP held n v on = logic Comp n v on
+effect-of CMPR held n v on = compare n v on
+effect-of MBIT held n v on = modify held n v on
+effect-of SENS held n v on = sense held n v on
+effect-of BROT held n v on = rotate n v on

@@ -1,0 +1,25 @@
+-- The eight kinds (document 01, "A network in words"): 1 to 8 in the order AND, OR, XOR, COMP, CMPR, MBIT, SENS, BROT.
+-- Assumes nothing.
+use Prim.Native.Nat.{ℕ}
+use mathlib.Core.Bool.{cond}
+use lib.Dec.{eqb}
+
+pub data Kind : Type 0 where
+  AND : Kind
+  OR : Kind
+  XOR : Kind
+  COMP : Kind
+  CMPR : Kind
+  MBIT : Kind
+  SENS : Kind
+  BROT : Kind
+
+unfoldable pub kind-of : ℕ → Kind
+kind-of k =
+    cond (eqb k 1) AND
+    (cond (eqb k 2) OR
+    (cond (eqb k 3) XOR
+    (cond (eqb k 4) COMP
+    (cond (eqb k 5) CMPR
+    (cond (eqb k 6) MBIT
+    (cond (eqb k 7) SENS BROT))))))

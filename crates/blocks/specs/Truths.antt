@@ -1,0 +1,93 @@
+-- What is true of a block of an accepted network (document 01, "One scan"): which bits it writes, that it changes nothing else
+-- and no input, the key rule, and when a compare reports none. Assumes nothing.
+use Prim.Native.Nat.{ℕ, _+_, _-_, _*_, _≤_, _<_}
+use mathlib.Core.Path.{_≡_}
+use mathlib.Core.Logic.{_↔_}
+use mathlib.Core.Bool.{Bool, true, false, cond, _&&_}
+use mathlib.Core.List.{List}
+use mathlib.Core.Option.{Option, none, some}
+use lib.Dec.{eqb, leb, ltb}
+use lib.ListN.{length}
+use Rattle.bits.specs.Bit.{bit}
+use Rattle.matrix.specs.Search.{NoneLater}
+use Rattle.matrix.specs.Pointer.{in-range}
+use Rattle.network.specs.declared.sizes.Sizes.{Sizes}
+use Rattle.network.specs.declared.block.Block.{Block}
+use Rattle.network.specs.Table.{total}
+use Rattle.network.specs.Sound.{GoodBlock}
+use Rattle.blocks.specs.declared.Power.{Power}
+use Rattle.blocks.specs.Kind.{Kind, kind-of}
+use Rattle.blocks.specs.View.{View, first-word, view}
+use Rattle.blocks.specs.Effect.{Effect, zeroed, compare}
+use Rattle.blocks.specs.Work.{pointer-node, one-word, effect-on, block-outputs, block-table}
+
+-- ---- the bits that a block writes, by their positions in the whole table
+
+-- what a matrix from an index on puts at a position, if it is written and the position is one of its own
+abbrev pub matrix-bit : ℕ → Option (List ℕ) → ℕ → Option Bool
+matrix-bit s none p = none
+matrix-bit s (some m) p = cond (ltb (16 * s) p && leb p (16 * (s + length m))) (some (bit m (p - 16 * s))) none
+
+-- what a coil puts there
+abbrev pub coil-bit : ℕ → Bool → ℕ → Option Bool
+coil-bit number on p = cond (eqb number 0) none (cond (eqb p number) (some on) none)
+
+-- what is written later counts
+abbrev pub later : Option Bool → Option Bool → Option Bool
+later none earlier = earlier
+later (some x) earlier = some x
+
+-- what the block puts at a position: none where it writes nothing
+abbrev pub bit-written : Sizes → Block → Power → Effect → ℕ → Option Bool
+bit-written z b on e p =
+    later (coil-bit (b .coils .bottom) (e .bottom) p)
+    (later (coil-bit (b .coils .middle) (e .middle) p)
+    (later (coil-bit (b .coils .top) (on .top) p)
+    (later (matrix-bit (first-word z (pointer-node (kind-of (b .kind)) b)) (one-word (e .pointer)) p)
+    (matrix-bit (first-word z (b .middle)) (e .destination) p))))
+
+-- the bit that was there, unless another is written
+abbrev pub or-stays : Option Bool → Bool → Bool
+or-stays none there = there
+or-stays (some x) there = x
+
+-- ---- the truths
+
+-- a block that the checker takes, and a table of exactly its areas
+pub record Runs (z : Sizes) (earlier : ℕ) (b : Block) (t : List ℕ) : Type 0 where
+  pub good : GoodBlock z earlier b
+  pub exact : length t ≡ total z
+
+-- every bit of the table afterwards
+abbrev pub EveryBit : Type 0
+EveryBit =
+    (z : Sizes) (earlier : ℕ) (b : Block) (t : List ℕ) → Runs z earlier b t → (on : Power) (p : ℕ) →
+    bit (block-table z b t on) p ≡ or-stays (bit-written z b on (effect-on z b t on) p) (bit t p)
+
+-- the frame: a block changes no bit but those that it writes
+abbrev pub Frame : Type 0
+Frame =
+    (z : Sizes) (earlier : ℕ) (b : Block) (t : List ℕ) → Runs z earlier b t → (on : Power) (p : ℕ) →
+    bit-written z b on (effect-on z b t on) p ≡ none → bit (block-table z b t on) p ≡ bit t p
+
+-- discrete inputs and input registers never change: they stand after the coils and before the holding registers
+abbrev pub InputsStay : Type 0
+InputsStay =
+    (z : Sizes) (earlier : ℕ) (b : Block) (t : List ℕ) → Runs z earlier b t → (on : Power) (p : ℕ) →
+    16 * z .coils < p → p ≤ 16 * (z .coils + z .discretes + z .inputs) → bit (block-table z b t on) p ≡ bit t p
+
+-- the key rule: two tables that agree on what a block reads, with equal inputs, give equal outputs and equal values in every
+-- bit that the block writes
+abbrev pub KeyRule : Type 0
+KeyRule =
+    (z : Sizes) (earlier : ℕ) (b : Block) (t u : List ℕ) → Runs z earlier b t → Runs z earlier b u →
+    view (kind-of (b .kind)) z b t ≡ view (kind-of (b .kind)) z b u → (on : Power) →
+    (block-outputs z b t on ≡ block-outputs z b u on)
+    × ((p : ℕ) (x : Bool) → bit-written z b on (effect-on z b t on) p ≡ some x →
+    (bit (block-table z b t on) p ≡ x) × (bit (block-table z b u on) p ≡ x))
+
+-- a compare with power reports none exactly when no position differs above the pointer, taken in range
+abbrev pub NoneMeansNone : Type 0
+NoneMeansNone =
+    (n : ℕ) (v : View) (on : Power) → on .top ≡ true →
+    (compare n v on .middle ≡ false) ↔ NoneLater (v .source) (v .destination) n (in-range (zeroed n v on) .at)

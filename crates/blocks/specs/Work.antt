@@ -1,0 +1,72 @@
+-- What a block writes (document 01, "One scan"): its destination, then its pointer where its rule gives a new one, then its
+-- named coils, top, middle, bottom, also when the top input has no power. Assumes nothing.
+use Prim.Native.Nat.{ℕ}
+use mathlib.Core.Bool.{Bool, cond}
+use mathlib.Core.List.{List, [], _∷_}
+use mathlib.Core.Option.{Option, none, some}
+use lib.Dec.{eqb}
+use Rattle.bits.specs.Bit.{bit, matrix}
+use Rattle.matrix.specs.Run.{run, placed}
+use Rattle.network.specs.declared.sizes.Sizes.{Sizes}
+use Rattle.network.specs.declared.block.Node.{Node}
+use Rattle.network.specs.declared.block.Coils.{Coils}
+use Rattle.network.specs.declared.block.Block.{Block}
+use Rattle.blocks.specs.declared.Power.{Power}
+use Rattle.blocks.specs.Kind.{Kind, kind-of}
+use Rattle.blocks.specs.Kind.Kind.{AND, OR, XOR, COMP, CMPR, MBIT, SENS, BROT}
+use Rattle.blocks.specs.View.{first-word, view}
+use Rattle.blocks.specs.Effect.{Effect, effect-of}
+
+-- the node that gives the pointer: CMPR's stands before its matrix
+abbrev pub pointer-node : Kind → Block → Node
+pointer-node CMPR b = b .middle
+pointer-node AND b = b .top
+pointer-node OR b = b .top
+pointer-node XOR b = b .top
+pointer-node COMP b = b .top
+pointer-node MBIT b = b .top
+pointer-node SENS b = b .top
+pointer-node BROT b = b .top
+
+-- a matrix in the place of as many words from an index on, where there is one to write
+unfoldable pub matrix-put : ℕ → Option (List ℕ) → List ℕ → List ℕ
+matrix-put s none t = t
+matrix-put s (some m) t = placed t s m
+
+-- a word is a matrix of its own
+abbrev pub one-word : Option ℕ → Option (List ℕ)
+one-word none = none
+one-word (some w) = some (w ∷ [])
+
+-- a coil: the bit of that number of the coil area, 1 for power and 0 for none; number 0 names none
+unfoldable pub coil-put : Sizes → ℕ → Bool → List ℕ → List ℕ
+coil-put z number on t =
+    cond (eqb number 0) t
+    (placed t 0 (matrix (z .coils) (λ p. cond (eqb p number) on (bit (run t 0 (z .coils)) p))))
+
+abbrev pub coils-put : Sizes → Coils → Power → List ℕ → List ℕ
+coils-put z coils out t = coil-put z (coils .bottom) (out .bottom) (coil-put z (coils .middle) (out .middle) (coil-put z (coils .top) (out .top) t))
+
+-- what the block is to do, with so much power on its inputs
+abbrev pub effect-on : Sizes → Block → List ℕ → Power → Effect
+effect-on z b t on =
+    effect-of (kind-of (b .kind)) (eqb (pointer-node (kind-of (b .kind)) b .class) 4) (b .n) (view (kind-of (b .kind)) z b t) on
+
+-- the top output equals the top input
+abbrev pub outputs : Power → Effect → Power
+outputs on e = record { top = on .top; middle = e .middle; bottom = e .bottom }
+
+abbrev pub written : Sizes → Block → Power → Effect → List ℕ → List ℕ
+written z b on e t =
+    coils-put z (b .coils) (outputs on e)
+    (matrix-put (first-word z (pointer-node (kind-of (b .kind)) b)) (one-word (e .pointer))
+    (matrix-put (first-word z (b .middle)) (e .destination) t))
+
+-- the outputs of a block, and the table that it leaves
+unfoldable pub block-outputs : Sizes → Block → List ℕ → Power → Power
+unfolding kind-of view effect-of
+block-outputs z b t on = outputs on (effect-on z b t on)
+
+unfoldable pub block-table : Sizes → Block → List ℕ → Power → List ℕ
+unfolding kind-of view effect-of matrix-put coil-put
+block-table z b t on = written z b on (effect-on z b t on) t

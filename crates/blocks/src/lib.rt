@@ -1,0 +1,9 @@
+// What each of the eight kinds of block does to a table of words: it reads, its rule says what becomes of what it has read, and
+// it writes.
+
+// Power on three inputs, or on three outputs.
+pub struct Power {
+    pub top: bool,
+    pub middle: bool,
+    pub bottom: bool,
+}
