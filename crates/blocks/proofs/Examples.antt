@@ -1,5 +1,6 @@
--- P1 to P14 of document 01, one block each, and the points that are easy to get wrong, computed by the definitions: on the
--- left a block, its table and the power on its inputs, on the right the table that it leaves and its outputs. Assumes nothing.
+-- The points of document 01 that are easy to get wrong, one block each, computed by the definitions: on the left a block, its
+-- table and the power on its inputs, on the right the table that it leaves and its outputs. P1 to P14 are computed as scans,
+-- in the crate above. Assumes nothing.
 use mathlib.Core.Path.{_≡_, refl}
 use mathlib.Core.Bool.{Bool, true, false, xor}
 use mathlib.Core.List.{List, [], _∷_}
@@ -60,50 +61,14 @@ does b t on = (block-table z b t on, block-outputs z b t on)
 abbrev table : ℕ → ℕ → ℕ → ℕ → ℕ → List ℕ
 table c a b d e = c ∷ a ∷ b ∷ d ∷ e ∷ []
 
--- P1 to P14; P10 with and without wrap
-pub examples :
-    _≡_ {A = List (List ℕ × Power)}
-    (does (usual 1 1) (table 0 0x3000 0x5000 0 0) top-only
-    ∷ does (usual 2 1) (table 0 0x3000 0x5000 0 0) top-only
-    ∷ does (usual 3 1) (table 0 0x3000 0x5000 0 0) top-only
-    ∷ does (usual 4 1) (table 0 0x3000 0x5000 0 0) top-only
-    ∷ does (usual 5 1) (table 0 0x8001 0 0x0000 0) top-only
-    ∷ does (usual 5 1) (table 0 0x8001 1 0x0000 0) top-only
-    ∷ does (usual 5 1) (table 0 0x8001 16 0x0000 0) top-only
-    ∷ does (usual 5 1) (table 0 0x0000 0 0x4000 0) top-only
-    ∷ does (usual 5 1) (table 0 0x0000 2 0x4000 0) top-only
-    ∷ does (usual 8 1) (table 0 0x0001 0x5555 0 0) (power true false true)
-    ∷ does (usual 8 1) (table 0 0x0001 0x5555 0 0) top-only
-    ∷ does (plain 8 2 (register 1) (register 3)) (table 0 0x8000 0x0001 0x5555 0x5555) (power true true true)
-    ∷ does (usual 4 2) (table 0 0x0000 0x0f0f 0x1234 0) top-only
-    ∷ does (usual 6 1) (table 0 16 0x0000 0 0) (power true true true)
-    ∷ does (usual 6 1) (table 0 17 0x0000 0 0) (power true true true)
-    ∷ [])
-    ((table 0 0x3000 0x1000 0 0, power true false false)
-    ∷ (table 0 0x3000 0x7000 0 0, power true false false)
-    ∷ (table 0 0x3000 0x6000 0 0, power true false false)
-    ∷ (table 0 0x3000 0xcfff 0 0, power true false false)
-    ∷ (table 0 0x8001 1 0x0000 0, power true true true)
-    ∷ (table 0 0x8001 16 0x0000 0, power true true true)
-    ∷ (table 0 0x8001 1 0x0000 0, power true true true)
-    ∷ (table 0 0x0000 2 0x4000 0, power true true false)
-    ∷ (table 0 0x0000 16 0x4000 0, power true false false)
-    ∷ (table 0 0x0001 0x8000 0 0, power true true false)
-    ∷ (table 0 0x0001 0x0000 0 0, power true true false)
-    ∷ (table 0 0x8000 0x0001 0x0000 0x0003, power true true false)
-    ∷ (table 0 0x0000 0xffff 0xf0f0 0, power true false false)
-    ∷ (table 0 1 0x0001 0 0, power true true false)
-    ∷ (table 0 17 0x0000 0 0, power true false true)
-    ∷ [])
-unfolding block-table block-outputs combined first moved reset in-range advanced start-of matrix value bit xor
-examples = refl
-
--- coils without power, with all three outputs on, and with two; a reset without power, and one of a pointer that the source
--- holds, which is compared as read; MBIT's pointer in its own matrix, without increase and with it; SENS of a constant that is asked to reset and increase,
--- with reset and increase, at 0, at 16n, over 16n, and reset without power; MBIT at 0 with increase
+-- a pointer of 16n; coils without power, with all three outputs on, and with two; a reset without power, and one of a pointer
+-- that the source holds, which is compared as read; MBIT's pointer in its own matrix, without increase and with it; SENS of a
+-- constant that is asked to reset and increase, with reset and increase, at 0, at 16n, over 16n, and reset without power;
+-- MBIT at 0 with increase
 pub edges :
     _≡_ {A = List (List ℕ × Power)}
-    (does (coiled 5 1) (table 0xffff 0x8001 7 0x0000 0) (power false false false)
+    (does (usual 5 1) (table 0 0x8001 16 0x0000 0) top-only
+    ∷ does (coiled 5 1) (table 0xffff 0x8001 7 0x0000 0) (power false false false)
     ∷ does (coiled 5 1) (table 0x0000 0x8001 0 0x0000 0) top-only
     ∷ does (coiled 5 1) (table 0x0000 0x0000 0 0x4000 0) top-only
     ∷ does (usual 5 1) (table 0 0x8001 7 0x0000 0) (power false true false)
@@ -118,7 +83,8 @@ pub edges :
     ∷ does (usual 7 1) (table 0 17 0xffff 0 0) (power false true true)
     ∷ does (usual 6 1) (table 0 0 0x0000 0 0) (power true true true)
     ∷ [])
-    ((table 0x1fff 0x8001 7 0x0000 0, power false false false)
+    ((table 0 0x8001 1 0x0000 0, power true true true)
+    ∷ (table 0x1fff 0x8001 7 0x0000 0, power false false false)
     ∷ (table 0xe000 0x8001 1 0x0000 0, power true true true)
     ∷ (table 0xc000 0x0000 2 0x4000 0, power true true false)
     ∷ (table 0 0x8001 0 0x0000 0, power false false false)

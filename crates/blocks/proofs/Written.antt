@@ -35,7 +35,7 @@ use Rattle.blocks.specs.Kind.Kind.{AND, OR, XOR, COMP, CMPR, MBIT, SENS,
 use Rattle.blocks.specs.View.{View, first-word, view}
 use Rattle.blocks.specs.Effect.{Effect, effect, idle, into, logic, zeroed, found, compare, rotate, increased, modify, at-one, left-at-one, sense, effect-of}
 use Rattle.blocks.specs.Work.{pointer-node, one-word, matrix-put, coil-put, outputs, effect-on, block-outputs, block-table}
-use Rattle.blocks.specs.Truths.{matrix-bit, coil-bit, later, bit-written, or-stays, Runs, EveryBit, Frame, InputsStay, KeyRule}
+use Rattle.blocks.specs.Truths.{matrix-bit, coil-bit, later, bit-written, or-stays, Runs, SameLong, EveryBit, Frame, InputsStay, KeyRule}
 use Rattle.blocks.proofs.Puts.{Room, put-bits, put-length, coil-bits, coil-length}
 
 -- ---- words that a block may write: they lie in the table, among the coils or among the holding registers
@@ -307,6 +307,11 @@ module _ (z : Sizes) (earlier : ℕ) (b : Block) (t : List ℕ) (r : Runs z earl
   unfolding with-middle
   long-4 = coil-length z (b .coils .middle) (e .middle) with-top (coils-in with-top long-3) ∙ long-3
 
+  long-after : length (block-table z b t on) ≡ length t
+  unfolding block-table kind e with-destination with-pointer with-top with-middle
+  long-after =
+      coil-length z (b .coils .bottom) (e .bottom) with-middle (coils-in with-middle long-4) ∙ long-4 ∙ sym (r .exact)
+
   bit-after : (p : ℕ) → bit (block-table z b t on) p ≡ or-stays (bit-written z b on e p) (bit t p)
   unfolding block-table kind e with-destination with-pointer with-top with-middle
   bit-after p =
@@ -369,6 +374,9 @@ module _ (z : Sizes) (earlier : ℕ) (b : Block) (t : List ℕ) (r : Runs z earl
       (ap₂ later (no-coil (b .coils .top) (on .top) p (r .good .top-coil) l)
       (ap₂ later (spared (first-word z (pointer-node kind b)) (one-word (e .pointer)) (has-room .pointer-room) p l u)
       (spared (first-word z (b .middle)) (e .destination) (has-room .destination-room) p l u))))
+
+pub same-long : SameLong
+same-long = long-after
 
 pub every-bit : EveryBit
 unfolding e

@@ -58,6 +58,11 @@ pub record Runs (z : Sizes) (earlier : ℕ) (b : Block) (t : List ℕ) : Type 0 
   pub good : GoodBlock z earlier b
   pub exact : length t ≡ total z
 
+-- the table stays as long as it was
+abbrev pub SameLong : Type 0
+SameLong =
+    (z : Sizes) (earlier : ℕ) (b : Block) (t : List ℕ) → Runs z earlier b t → (on : Power) → length (block-table z b t on) ≡ length t
+
 -- every bit of the table afterwards
 abbrev pub EveryBit : Type 0
 EveryBit =

@@ -1,0 +1,194 @@
+-- P1 to P14 of document 01 as one table of scans, and the points on inputs, outputs and refusals, computed by the definitions:
+-- on the left a network in words, a table and outputs, on the right the verdict, the table and the outputs after the scan.
+-- Assumes nothing.
+use mathlib.Core.Path.{_≡_, refl}
+use mathlib.Core.Bool.{Bool, true, false, xor}
+use mathlib.Core.List.{List, [], _∷_, _++_, map}
+use Prim.Native.Nat.{ℕ}
+use lib.ListN.{length}
+use Rattle.bits.specs.declared.Verdict.{Verdict}
+use Rattle.bits.specs.Bit.{bit, value, matrix}
+use Rattle.matrix.specs.Logic.{combined}
+use Rattle.matrix.specs.Search.{first}
+use Rattle.matrix.specs.Move.{moved}
+use Rattle.matrix.specs.Pointer.{reset, in-range, advanced}
+use Rattle.network.specs.Table.{reference-fault, start-of}
+use Rattle.network.specs.Rules.{rule, allows}
+use Rattle.network.specs.Record.{block-at}
+use Rattle.network.specs.Fault.{class-fault, number-fault, input-fault, faults, word-fault}
+use Rattle.network.specs.Check.{verdict, done, seek, head-faults, head-fault, fault-in, leading, opened}
+use Rattle.blocks.specs.Work.{block-outputs, block-table}
+use Rattle.scan.specs.Input.{passes}
+use Rattle.scan.specs.Scan.{step, steps, blocks-from, scan-verdict, scan-table, scan-outputs}
+
+-- a network in a table of a word of coils, a word of discrete inputs and four holding registers
+abbrev network : ℕ → List ℕ → List ℕ
+network count blocks = 4 ∷ 1 ∷ 1 ∷ 0 ∷ 4 ∷ count ∷ blocks
+
+-- a block on registers: kind, n, top node, middle node, the rest
+abbrev block : ℕ → ℕ → ℕ → ℕ → List ℕ → List ℕ
+block kind n top middle rest = kind ∷ n ∷ 4 ∷ top ∷ 4 ∷ middle ∷ rest
+
+-- power on top alone; on top and bottom; on all three; no coils
+abbrev top-on : List ℕ
+top-on = 1 ∷ 0 ∷ 0 ∷ 0 ∷ 0 ∷ 0 ∷ 0 ∷ 0 ∷ 0 ∷ []
+
+abbrev top-bottom : List ℕ
+top-bottom = 1 ∷ 0 ∷ 0 ∷ 0 ∷ 1 ∷ 0 ∷ 0 ∷ 0 ∷ 0 ∷ []
+
+abbrev all-on : List ℕ
+all-on = 1 ∷ 0 ∷ 1 ∷ 0 ∷ 1 ∷ 0 ∷ 0 ∷ 0 ∷ 0 ∷ []
+
+abbrev usual : ℕ → ℕ → List ℕ → List ℕ
+usual kind n rest = network 1 (block kind n 1 2 rest)
+
+abbrev registers : ℕ → ℕ → ℕ → ℕ → List ℕ
+registers a b c d = 0 ∷ 0 ∷ a ∷ b ∷ c ∷ d ∷ []
+
+abbrev Outcome : Type 0
+Outcome = Verdict × List ℕ × List ℕ
+
+abbrev scan : List ℕ → List ℕ → List ℕ → Outcome
+scan ws t outputs = (scan-verdict ws t outputs, scan-table ws t outputs, scan-outputs ws t outputs)
+
+-- one block in a scan with room for one output
+abbrev does : List ℕ → List ℕ → Outcome
+does ws t = scan ws t (0 ∷ [])
+
+abbrev gives : List ℕ → ℕ → Outcome
+gives t out = (done, t, out ∷ [])
+
+-- P1 to P14; P10 with and without wrap
+pub examples :
+    _≡_ {A = List Outcome}
+    (does (usual 1 1 top-on) (registers 0x3000 0x5000 0 0)
+    ∷ does (usual 2 1 top-on) (registers 0x3000 0x5000 0 0)
+    ∷ does (usual 3 1 top-on) (registers 0x3000 0x5000 0 0)
+    ∷ does (usual 4 1 top-on) (registers 0x3000 0x5000 0 0)
+    ∷ does (usual 5 1 top-on) (registers 0x8001 0 0x0000 0)
+    ∷ does (usual 5 1 top-on) (registers 0x8001 1 0x0000 0)
+    ∷ does (usual 5 1 top-on) (registers 0x8001 16 0x0000 0)
+    ∷ does (usual 5 1 top-on) (registers 0x0000 0 0x4000 0)
+    ∷ does (usual 5 1 top-on) (registers 0x0000 2 0x4000 0)
+    ∷ does (usual 8 1 top-bottom) (registers 0x0001 0x5555 0 0)
+    ∷ does (usual 8 1 top-on) (registers 0x0001 0x5555 0 0)
+    ∷ does (network 1 (block 8 2 1 3 all-on)) (registers 0x8000 0x0001 0x5555 0x5555)
+    ∷ does (usual 4 2 top-on) (registers 0x0000 0x0f0f 0x1234 0)
+    ∷ does (usual 6 1 all-on) (registers 16 0x0000 0 0)
+    ∷ does (usual 6 1 all-on) (registers 17 0x0000 0 0)
+    ∷ [])
+    (gives (registers 0x3000 0x1000 0 0) 1
+    ∷ gives (registers 0x3000 0x7000 0 0) 1
+    ∷ gives (registers 0x3000 0x6000 0 0) 1
+    ∷ gives (registers 0x3000 0xcfff 0 0) 1
+    ∷ gives (registers 0x8001 1 0x0000 0) 7
+    ∷ gives (registers 0x8001 16 0x0000 0) 7
+    ∷ gives (registers 0x8001 1 0x0000 0) 7
+    ∷ gives (registers 0x0000 2 0x4000 0) 3
+    ∷ gives (registers 0x0000 16 0x4000 0) 1
+    ∷ gives (registers 0x0001 0x8000 0 0) 3
+    ∷ gives (registers 0x0001 0x0000 0 0) 3
+    ∷ gives (registers 0x8000 0x0001 0x0000 0x0003) 3
+    ∷ gives (registers 0x0000 0xffff 0xf0f0 0) 1
+    ∷ gives (registers 1 0x0001 0 0) 3
+    ∷ gives (registers 17 0x0000 0 0) 5
+    ∷ [])
+unfolding scan-verdict scan-table scan-outputs step steps blocks-from passes block-table block-outputs
+    combined first moved reset in-range advanced start-of matrix value bit xor
+    opened leading fault-in head-fault head-faults seek word-fault faults class-fault number-fault input-fault reference-fault rule allows block-at
+examples = refl
+
+-- ---- several blocks, and several scans
+
+-- a block whose inputs are given, with coils 1, 2 and 3
+abbrev wired : ℕ → ℕ → ℕ → ℕ → List ℕ → List ℕ
+wired kind n top middle inputs = block kind n top middle (inputs ++ 1 ∷ 2 ∷ 3 ∷ [])
+
+-- a block whose inputs are given, without coils
+abbrev bare : ℕ → ℕ → ℕ → ℕ → List ℕ → List ℕ
+bare kind n top middle inputs = block kind n top middle (inputs ++ 0 ∷ 0 ∷ 0 ∷ [])
+
+-- COMP 40003 to 40004 with so much power on top
+abbrev answering : ℕ → ℕ → List ℕ
+answering code number = bare 4 1 3 4 (code ∷ number ∷ 0 ∷ 0 ∷ 0 ∷ 0 ∷ [])
+
+-- a CMPR of 40001 with 40003 that reports bit 2, source off, so that top and middle are on and bottom is off
+abbrev first-block : List ℕ
+first-block = wired 5 1 1 2 (1 ∷ 0 ∷ 0 ∷ 0 ∷ 0 ∷ 0 ∷ [])
+
+abbrev after-first : ℕ → ℕ → List ℕ
+after-first code number = network 2 (first-block ++ answering code number)
+
+-- the coils that it writes and its outputs are there for the block after it, in the same scan; open and closed contacts of
+-- coils 2 and 3, of discrete inputs 1 and 2, and its three outputs; the third output entry stays
+abbrev then-runs : ℕ → ℕ → List ℕ × List ℕ
+then-runs code number =
+    let t : List ℕ = 0 ∷ 0x8000 ∷ 0x0000 ∷ 0 ∷ 0x4000 ∷ 0 ∷ [] in
+    (scan-table (after-first code number) t (9 ∷ 9 ∷ 9 ∷ []), scan-outputs (after-first code number) t (9 ∷ 9 ∷ 9 ∷ []))
+
+abbrev worked : List ℕ × List ℕ
+worked = (0xc000 ∷ 0x8000 ∷ 0x0000 ∷ 2 ∷ 0x4000 ∷ 0xbfff ∷ [], 3 ∷ 1 ∷ 9 ∷ [])
+
+abbrev rested : List ℕ × List ℕ
+rested = (0xc000 ∷ 0x8000 ∷ 0x0000 ∷ 2 ∷ 0x4000 ∷ 0 ∷ [], 3 ∷ 0 ∷ 9 ∷ [])
+
+pub inputs :
+    _≡_ {A = List (List ℕ × List ℕ)}
+    (then-runs 0 0 ∷ then-runs 1 0
+    ∷ then-runs 2 2 ∷ then-runs 3 2 ∷ then-runs 2 3 ∷ then-runs 3 3
+    ∷ then-runs 4 1 ∷ then-runs 5 1 ∷ then-runs 4 2 ∷ then-runs 5 2
+    ∷ then-runs 6 1 ∷ then-runs 7 1 ∷ then-runs 8 1
+    ∷ [])
+    (rested ∷ worked
+    ∷ worked ∷ rested ∷ rested ∷ worked
+    ∷ worked ∷ rested ∷ rested ∷ worked
+    ∷ worked ∷ worked ∷ rested
+    ∷ [])
+unfolding scan-verdict scan-table scan-outputs step steps blocks-from passes block-table block-outputs
+    combined first moved reset in-range advanced start-of matrix value bit xor
+    opened leading fault-in head-fault head-faults seek word-fault faults class-fault number-fault input-fault reference-fault rule allows block-at
+inputs = refl
+
+-- the compare of the bench's example, scan after scan: 1, 16, 1, 16, each with all outputs on
+abbrev again : List ℕ → List ℕ
+again t = scan-table (usual 5 1 top-on) t (0 ∷ [])
+
+pub scans :
+    _≡_ {A = List Outcome}
+    (does (usual 5 1 top-on) (registers 32769 0 0 0)
+    ∷ does (usual 5 1 top-on) (again (registers 32769 0 0 0))
+    ∷ does (usual 5 1 top-on) (again (again (registers 32769 0 0 0)))
+    ∷ does (usual 5 1 top-on) (again (again (again (registers 32769 0 0 0))))
+    ∷ [])
+    (gives (registers 32769 1 0 0) 7
+    ∷ gives (registers 32769 16 0 0) 7
+    ∷ gives (registers 32769 1 0 0) 7
+    ∷ gives (registers 32769 16 0 0) 7
+    ∷ [])
+unfolding scan-verdict scan-table scan-outputs step steps blocks-from passes block-table block-outputs
+    combined first moved reset in-range advanced start-of matrix value bit xor
+    opened leading fault-in head-fault head-faults seek word-fault faults class-fault number-fault input-fault reference-fault rule allows block-at
+scans = refl
+
+-- refused: by the network (5 at word 8), a table that is a word short or a word long (12), outputs shorter than the count
+-- (12); the network's refusal comes first; a network without blocks asks for no output
+pub refused :
+    _≡_ {A = List Outcome}
+    (scan (usual 1 0 top-on) (registers 1 2 3 4) (7 ∷ [])
+    ∷ scan (usual 1 1 top-on) (0 ∷ 0 ∷ 1 ∷ 2 ∷ 3 ∷ []) (7 ∷ [])
+    ∷ scan (usual 1 1 top-on) (0 ∷ registers 1 2 3 4) (7 ∷ [])
+    ∷ scan (usual 1 1 top-on) (registers 1 2 3 4) []
+    ∷ scan (usual 1 0 top-on) [] []
+    ∷ scan (network 0 []) (registers 1 2 3 4) []
+    ∷ [])
+    ((verdict 5 8, registers 1 2 3 4, 7 ∷ [])
+    ∷ (verdict 12 0, 0 ∷ 0 ∷ 1 ∷ 2 ∷ 3 ∷ [], 7 ∷ [])
+    ∷ (verdict 12 0, 0 ∷ registers 1 2 3 4, 7 ∷ [])
+    ∷ (verdict 12 0, registers 1 2 3 4, [])
+    ∷ (verdict 5 8, [], [])
+    ∷ (done, registers 1 2 3 4, [])
+    ∷ [])
+unfolding scan-verdict scan-table scan-outputs step steps blocks-from passes block-table block-outputs
+    combined first moved reset in-range advanced start-of matrix value bit xor
+    opened leading fault-in head-fault head-faults seek word-fault faults class-fault number-fault input-fault reference-fault rule allows block-at
+refused = refl

@@ -1,0 +1,117 @@
+-- What a scan keeps: a refusal everything, and any scan the length of the table, the discrete inputs and the input registers.
+-- Assumes nothing.
+use mathlib.Core.Path.{_≡_, refl, sym, ap, _∙_, subst}
+use mathlib.Core.Bool.{Bool, true, false, cond, _&&_, false≢true}
+use mathlib.Core.List.{List, [], _∷_, _++_, map}
+use Prim.Native.Nat.{ℕ, zero, suc, _+_, _*_, _≤_, _<_}
+use native.Mathlib.Omega.{arith}
+use borrow.Author.Tests.{eqb-true, eqb-false, eq-eqb, ne-eqb}
+use lib.Dec.{eqb, leb}
+use lib.ListN.{length, drop}
+use Rattle.bits.specs.declared.Verdict.{Verdict}
+use Rattle.bits.specs.Bit.{bit}
+use Rattle.network.specs.declared.sizes.Sizes.{Sizes}
+use Rattle.network.specs.declared.block.Block.{Block}
+use Rattle.network.specs.Table.{total}
+use Rattle.network.specs.Record.{word, block-at}
+use Rattle.network.specs.Check.{verdict, done, then, sizes-in, block-start, checked}
+use Rattle.network.specs.Sound.{GoodBlock, Sound}
+use Rattle.network.proofs.Accepted.{accepts-exactly}
+use Rattle.blocks.specs.declared.Power.{Power}
+use Rattle.blocks.specs.Work.{block-table}
+use Rattle.blocks.specs.Truths.{Runs}
+use Rattle.blocks.proofs.Written.{same-long, inputs-stay as block-inputs-stay}
+use Rattle.scan.specs.Input.{power-on}
+use Rattle.scan.specs.Scan.{State, step, steps, blocks-from, scanned, packed, scan-verdict, scan-table, scan-outputs}
+use Rattle.scan.specs.Truths.{RefusalKeeps, SameLong, InputsStay}
+
+-- ---- blocks that may follow so many earlier ones
+data Each (z : Sizes) : ℕ → List Block → Type 0 where
+  no-more : (j : ℕ) → Each z j []
+  one-more : (j : ℕ) (b : Block) (bs : List Block) → GoodBlock z j b → Each z (suc j) bs → Each z j (b ∷ bs)
+
+each-from : (ws : List ℕ) (n j : ℕ) → ((i : ℕ) → i < j + n → GoodBlock (sizes-in ws) i (block-at ws (block-start i)))
+    → Each (sizes-in ws) j (blocks-from ws j n)
+unfolding blocks-from
+each-from ws zero j h = no-more j
+each-from ws (suc n) j h =
+    one-more j (block-at ws (block-start j)) (blocks-from ws (suc j) n) (h j (omega arith)) (each-from ws n (suc j) (λ i l. h i (omega arith)))
+
+-- ---- a table of exactly the areas, with the inputs of another
+record Same (z : Sizes) (t u : List ℕ) : Type 0 where
+  exact : length u ≡ total z
+  inputs : (p : ℕ) → 16 * z .coils < p → p ≤ 16 * (z .coils + z .discretes + z .inputs) → bit u p ≡ bit t p
+
+kept : (z : Sizes) (t : List ℕ) (j : ℕ) (bs : List Block) → Each z j bs → (s : State) → Same z t (s .table) → Same z t (steps z bs s .table)
+unfolding steps step
+kept z t j bs (no-more k) s h = h
+kept z t j bs (one-more k b rest g more) s h =
+    kept z t (suc k) rest more (step z b s) (record {
+      exact = same-long z k b (s .table) runs on ∙ h .exact;
+      inputs = λ p l u. block-inputs-stay z k b (s .table) runs on p l u ∙ h .inputs p l u;
+    })
+  where
+    on : Power
+    on = power-on z (s .table) (s .outs) (b .inputs)
+
+    runs : Runs z k b (s .table)
+    runs = record { good = g; exact = h .exact }
+
+-- ---- a verdict that refuses nothing
+then-first : (v w : Verdict) → then v w .number ≡ 0 → v .number ≡ 0
+then-first v w h = go (eqb (v .number) 0) refl h
+  where
+    go : (a : Bool) → eqb (v .number) 0 ≡ a → cond a w v .number ≡ 0 → v .number ≡ 0
+    go true e q = eqb-true (v .number) 0 e
+    go false e q = q
+
+then-second : (v w : Verdict) → then v w .number ≡ 0 → w .number ≡ 0
+then-second v w h = go (eqb (v .number) 0) refl h
+  where
+    go : (a : Bool) → eqb (v .number) 0 ≡ a → cond a w v .number ≡ 0 → w .number ≡ 0
+    go true e q = q
+    go false e q = absurd (eqb-false (v .number) 0 e q)
+
+module _ (ws t outputs : List ℕ) where
+  exact-table : scan-verdict ws t outputs .number ≡ 0 → length t ≡ total (sizes-in ws)
+  unfolding scan-verdict
+  exact-table h = go (eqb (length t) (total (sizes-in ws))) refl (leb (word ws 5) (length outputs)) (then-second (checked ws) _ h)
+    where
+      go : (a : Bool) → eqb (length t) (total (sizes-in ws)) ≡ a → (c : Bool) → cond (a && c) done (verdict 12 0) .number ≡ 0 → length t ≡ total (sizes-in ws)
+      go true e c q = eqb-true (length t) (total (sizes-in ws)) e
+      go false e c q = absurd (omega arith)
+
+  accepted : scan-verdict ws t outputs .number ≡ 0 → Sound ws
+  unfolding scan-verdict
+  accepted h = accepts-exactly ws .0 (then-first (checked ws) _ h)
+
+  after-scan : scan-verdict ws t outputs .number ≡ 0 → Same (sizes-in ws) t (scanned ws t .table)
+  after-scan h =
+      kept (sizes-in ws) t 0 (blocks-from ws 0 (word ws 5)) (each-from ws (word ws 5) 0 (λ i l. accepted h .blocks i (omega arith)))
+      (record { table = t; outs = [] })
+      (record { exact = exact-table h; inputs = λ p l u. refl })
+
+pub refusal-keeps : RefusalKeeps
+unfolding scan-table scan-outputs
+refusal-keeps ws t outputs h = (
+  ap (λ (a : Bool). cond a (scanned ws t .table) t) (ne-eqb (scan-verdict ws t outputs .number) 0 h),
+  ap (λ (a : Bool). cond a (map packed (scanned ws t .outs) ++ drop (word ws 5) outputs) outputs) (ne-eqb (scan-verdict ws t outputs .number) 0 h),
+)
+
+pub same-long-after : SameLong
+unfolding scan-table
+same-long-after ws t outputs = go (eqb (scan-verdict ws t outputs .number) 0) refl
+  where
+    go : (a : Bool) → eqb (scan-verdict ws t outputs .number) 0 ≡ a → length (cond a (scanned ws t .table) t) ≡ length t
+    go true e =
+        let h : scan-verdict ws t outputs .number ≡ 0 = eqb-true (scan-verdict ws t outputs .number) 0 e in
+        after-scan ws t outputs h .exact ∙ sym (exact-table ws t outputs h)
+    go false e = refl
+
+pub inputs-stay : InputsStay
+unfolding scan-table
+inputs-stay ws t outputs p l u = go (eqb (scan-verdict ws t outputs .number) 0) refl
+  where
+    go : (a : Bool) → eqb (scan-verdict ws t outputs .number) 0 ≡ a → bit (cond a (scanned ws t .table) t) p ≡ bit t p
+    go true e = after-scan ws t outputs (eqb-true (scan-verdict ws t outputs .number) 0 e) .inputs p l u
+    go false e = refl

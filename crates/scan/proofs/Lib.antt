@@ -1,0 +1,3 @@
+-- What a scan keeps; the examples.
+pub mod Examples
+pub mod Kept

@@ -1,0 +1,5 @@
+-- What a scan is, in document 01's order: the power on a block's inputs, the blocks in order, the numbers returned; then what is
+-- true of it.
+pub mod Input
+pub mod Scan
+pub mod Truths

@@ -1,0 +1,26 @@
+-- What is true of a scan (document 01, "One scan"). Assumes nothing.
+use Prim.Native.Nat.{ℕ, _+_, _*_, _≤_, _<_}
+use mathlib.Core.Path.{_≡_}
+use mathlib.Core.List.{List}
+use lib.ListN.{length}
+use Rattle.bits.specs.Bit.{bit}
+use Rattle.network.specs.declared.sizes.Sizes.{Sizes}
+use Rattle.network.specs.Check.{sizes-in}
+use Rattle.scan.specs.Scan.{scan-verdict, scan-table, scan-outputs}
+
+-- a refusal changes neither the table nor the outputs
+abbrev pub RefusalKeeps : Type 0
+RefusalKeeps =
+    (ws t outputs : List ℕ) → (scan-verdict ws t outputs .number ≡ 0 → ⊥) →
+    (scan-table ws t outputs ≡ t) × (scan-outputs ws t outputs ≡ outputs)
+
+-- the table stays as long as it was
+abbrev pub SameLong : Type 0
+SameLong = (ws t outputs : List ℕ) → length (scan-table ws t outputs) ≡ length t
+
+-- discrete inputs and input registers never change: they stand after the coils and before the holding registers
+abbrev pub InputsStay : Type 0
+InputsStay =
+    (ws t outputs : List ℕ) (p : ℕ) →
+    16 * sizes-in ws .coils < p → p ≤ 16 * (sizes-in ws .coils + sizes-in ws .discretes + sizes-in ws .inputs) →
+    bit (scan-table ws t outputs) p ≡ bit t p
