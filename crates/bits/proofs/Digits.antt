@@ -3,8 +3,8 @@
 use mathlib.Core.Path.{_≡_, refl, sym, ap, ap₂, _∙_, subst}
 use mathlib.Core.Bool.{Bool, true, false, cond}
 use mathlib.Core.Logic.{_⊎_, ⊎-elim}
-use Prim.Native.Nat.{ℕ, zero, suc, _+_, _-_, _*_, _/_, _%_, _^_, _≤_, _<_}
-use native.Mathlib.Nat.{pow-suc, suc-sub-suc, sub-self, div-one, le-of-suc-le-suc, not-suc-le-zero, eq-or-lt-of-le, div-div-eq-div-mul, mul-comm, lt-trans, lt-suc-self, le-step, mod-one, mod-lt}
+use Prim.Native.Nat.{ℕ, zero, suc, _+_, _-_, _*_, _/_, _%_, _^_, _<_}
+use native.Mathlib.Nat.{pow-suc, sub-self, div-one, le-of-suc-le-suc, not-suc-le-zero, eq-or-lt-of-le, div-div-eq-div-mul, mul-comm, lt-suc-self, le-step, mod-one}
 use native.Mathlib.Omega.{arith}
 use lib.Arith.{digits-div, digits-mod, digits-lt, mod-mul}
 use lib.Dec.{eqb}

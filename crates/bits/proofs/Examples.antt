@@ -5,7 +5,7 @@ use mathlib.Core.Bool.{Bool, true, false, cond}
 use mathlib.Core.List.{List, [], _∷_}
 use Prim.Native.Nat.{ℕ, zero, suc}
 use lib.Dec.{eqb}
-use Rattle.bits.specs.Bit.{bit, of, value, word, matrix}
+use Rattle.bits.specs.Bit.{bit, value, word, matrix}
 use Rattle.bits.specs.Word.{rightward, leftward, put}
 
 -- the positions that are on, of the k after i

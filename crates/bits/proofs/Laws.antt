@@ -1,18 +1,18 @@
 -- From words to bits: a word is the word of its bits, and what `&`, `|`, `^`, `!` and a single one do to a word is what
 -- they do to each bit. One law over the positions for all of them. Assumes nothing.
-use mathlib.Core.Path.{_≡_, refl, sym, ap, ap₂, _∙_, subst}
-use mathlib.Core.Bool.{Bool, true, false, cond, not, _&&_, _||_, xor}
+use mathlib.Core.Path.{_≡_, refl, sym, ap, ap₂, _∙_}
+use mathlib.Core.Bool.{Bool, true, false, not, _&&_, _||_, xor}
 use mathlib.Core.List.{List, [], _∷_}
 use mathlib.Core.Logic.{⊎-elim}
 use Prim.Native.Nat.{ℕ, zero, suc, _+_, _-_, _*_, _/_, _%_, _^_, _≤_, _<_}
-use native.Mathlib.Nat.{mod-eq-of-lt, le-step, lt-suc-self, eq-or-lt-of-le, le-of-suc-le-suc, not-suc-le-zero, pow-suc, add-zero, zero-div}
+use native.Mathlib.Nat.{mod-eq-of-lt, eq-or-lt-of-le, le-of-suc-le-suc, not-suc-le-zero, pow-suc, add-zero, zero-div}
 use native.Mathlib.Omega.{arith}
 use borrow.Author.Tests.{eq-eqb, ne-eqb}
 use lib.Bits.{bitAnd, bitOr, bitXor, and-shr, or-shr, xor-shr, and-mod, or-mod, xor-mod, and-mask, xor-add-and}
-use lib.Dec.{eqb, lit<}
+use lib.Dec.{eqb}
 use lib.ListN.{length, getD, List·getD-eq-default}
 use Rattle.bits.specs.Bit.{odd, bit, of, value, word}
-use Rattle.bits.proofs.Digits.{digit, digit-odd, value-cong, value-digit, value-of, value-lt}
+use Rattle.bits.proofs.Digits.{digit, digit-odd, value-cong, value-digit, value-of}
 
 -- the bit of a word by its worth
 pub of-digit : (w i : ℕ) → i < 16 → of w (suc i) ≡ odd (w / 2 ^ (16 - suc i))

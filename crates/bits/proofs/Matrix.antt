@@ -1,17 +1,16 @@
 -- The laws of matrices: the words of `matrix n f`, its bits, and that words with these bits are it. Each goes by induction
 -- on the words. Assumes nothing.
-use mathlib.Core.Path.{_≡_, refl, sym, ap, ap₂, _∙_, subst}
-use mathlib.Core.Bool.{Bool, true, false}
+use mathlib.Core.Path.{_≡_, refl, sym, ap, ap₂, _∙_}
+use mathlib.Core.Bool.{Bool}
 use mathlib.Core.List.{List, [], _∷_}
-use Prim.Native.Nat.{ℕ, zero, suc, _+_, _-_, _*_, _/_, _%_, _^_, _≤_, _<_}
+use Prim.Native.Nat.{ℕ, zero, suc, _+_, _-_, _*_, _/_, _%_, _^_, _<_}
 use native.Mathlib.Nat.{not-suc-le-zero, le-of-suc-le-suc, zero-add, add-suc}
 use native.Mathlib.Omega.{arith}
-use lib.Dec.{lit<}
 use lib.ListN.{length, getD}
 use lib.Seq.{ext-getD}
-use Rattle.bits.specs.Bit.{odd, bit, of, value, word, matrix}
-use Rattle.bits.proofs.Digits.{value-cong, value-lt}
-use Rattle.bits.proofs.Laws.{of-digit, word-of, of-word}
+use Rattle.bits.specs.Bit.{odd, bit, of, word, matrix}
+use Rattle.bits.proofs.Digits.{value-cong}
+use Rattle.bits.proofs.Laws.{word-of, of-word}
 
 -- the bits of word k are those of the matrix from position 16k + 1 on
 pub bit-of : (m : List ℕ) (k i : ℕ) → i < 16 → bit m (k * 16 + suc i) ≡ of (getD m k 0) (suc i)

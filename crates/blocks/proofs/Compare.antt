@@ -1,14 +1,13 @@
 -- When a compare reports none. Assumes nothing.
 use mathlib.Core.Path.{_≡_, refl, sym, ap, _∙_}
-use mathlib.Core.Bool.{Bool, true, false, cond, false≢true}
+use mathlib.Core.Bool.{Bool, false, cond, false≢true}
 use mathlib.Core.Option.{Option, none, some}
-use Prim.Native.Nat.{ℕ, _*_}
-use Rattle.matrix.specs.Search.{first, first-differing}
+use Prim.Native.Nat.{ℕ}
+use Rattle.matrix.specs.Search.{first-differing}
 use Rattle.matrix.specs.Pointer.{in-range}
 use Rattle.matrix.proofs.Sought.{none-sought}
-use Rattle.blocks.specs.declared.Power.{Power}
 use Rattle.blocks.specs.View.{View}
-use Rattle.blocks.specs.Effect.{Effect, idle, zeroed, found, compare}
+use Rattle.blocks.specs.Effect.{idle, zeroed, found, compare}
 use Rattle.blocks.specs.Truths.{NoneMeansNone}
 
 -- what is found is reported by the middle output

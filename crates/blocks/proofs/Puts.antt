@@ -2,7 +2,7 @@
 -- Assumes nothing.
 use mathlib.Core.Path.{_≡_, refl, sym, ap, ap₂, _∙_, subst}
 use mathlib.Core.Bool.{Bool, true, false, cond, _&&_, false≢true}
-use mathlib.Core.List.{List, [], _∷_, _++_, append-assoc}
+use mathlib.Core.List.{List, _++_, append-assoc}
 use mathlib.Core.Option.{Option, none, some}
 use Prim.Native.Nat.{ℕ, zero, suc, _+_, _-_, _*_, _/_, _%_, _^_, _≤_, _<_}
 use native.Mathlib.Omega.{arith}
@@ -16,7 +16,7 @@ use Rattle.matrix.specs.Run.{run, placed}
 use Rattle.matrix.proofs.Runs.{run-at}
 use Rattle.network.specs.declared.sizes.Sizes.{Sizes}
 use Rattle.blocks.specs.Work.{matrix-put, coil-put}
-use Rattle.blocks.specs.Truths.{matrix-bit, coil-bit, later, or-stays}
+use Rattle.blocks.specs.Truths.{matrix-bit, coil-bit, or-stays}
 
 -- equal words have equal bits
 same-bit : (x y : List ℕ) (i j : ℕ) → i % 16 ≡ j % 16 → getD x (i / 16) 0 ≡ getD y (j / 16) 0 → bit x (suc i) ≡ bit y (suc j)

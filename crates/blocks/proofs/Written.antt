@@ -15,19 +15,18 @@ use Rattle.bits.proofs.Matrix.{matrix-length}
 use Rattle.matrix.specs.declared.logic.Operation.{Operation}
 use Rattle.matrix.specs.declared.logic.Operation.the-variants.{And, Or, Xor, Comp}
 use Rattle.matrix.specs.Logic.{combined}
-use Rattle.matrix.specs.Search.{first, first-differing}
+use Rattle.matrix.specs.Search.{first-differing}
 use Rattle.matrix.specs.Move.{leaving, moved}
-use Rattle.matrix.specs.Pointer.{reset, in-range, advanced}
+use Rattle.matrix.specs.Pointer.{in-range, advanced}
 use Rattle.network.specs.declared.sizes.Sizes.{Sizes}
 use Rattle.network.specs.declared.block.Node.{Node}
 use Rattle.network.specs.declared.block.Block.{Block}
 use Rattle.network.specs.declared.rules.Classes.{Classes}
-use Rattle.network.specs.declared.rules.Rule.{Rule}
 use Rattle.network.specs.Table.{total, start-of}
 use Rattle.network.specs.Rules.{rule}
 use Rattle.network.specs.Fault.{top-words}
 use Rattle.network.specs.Sound.{Placed, GoodNode, GoodBlock}
-use Rattle.network.specs.Kinds.{Writable, TwoMatrices, Compared, Pointed, KindFacts}
+use Rattle.network.specs.Kinds.{Writable, Pointed, KindFacts}
 use Rattle.network.proofs.KindFacts.{accepted-means}
 use Rattle.blocks.specs.declared.Power.{Power}
 use Rattle.blocks.specs.Kind.{Kind, kind-of}

@@ -1,10 +1,10 @@
 -- What a block is to write, and its two lower outputs, by its kind's rule (document 01, "One scan"): from what it has read and
 -- the power on its inputs. Assumes nothing.
-use Prim.Native.Nat.{ℕ, _+_, _*_}
+use Prim.Native.Nat.{ℕ, _*_}
 use mathlib.Core.Bool.{Bool, true, false, not, cond, _&&_}
 use mathlib.Core.List.{List}
 use mathlib.Core.Option.{Option, none, some}
-use lib.Dec.{eqb, leb, ltb}
+use lib.Dec.{eqb, ltb}
 use Rattle.bits.specs.Bit.{bit, matrix}
 use Rattle.matrix.specs.declared.logic.Operation.{Operation}
 use Rattle.matrix.specs.declared.logic.Operation.the-variants.{And, Or, Xor, Comp}

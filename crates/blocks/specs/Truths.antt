@@ -16,7 +16,7 @@ use Rattle.network.specs.declared.block.Block.{Block}
 use Rattle.network.specs.Table.{total}
 use Rattle.network.specs.Sound.{GoodBlock}
 use Rattle.blocks.specs.declared.Power.{Power}
-use Rattle.blocks.specs.Kind.{Kind, kind-of}
+use Rattle.blocks.specs.Kind.{kind-of}
 use Rattle.blocks.specs.View.{View, first-word, view}
 use Rattle.blocks.specs.Effect.{Effect, zeroed, compare}
 use Rattle.blocks.specs.Work.{pointer-node, one-word, effect-on, block-outputs, block-table}

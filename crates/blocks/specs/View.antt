@@ -1,7 +1,7 @@
 -- What a block reads of the table (document 01, "One scan"), all of it before it writes: its source, its destination and its
 -- pointer, each only where its kind reads it. Assumes nothing.
 use Prim.Native.Nat.{ℕ, _+_}
-use mathlib.Core.Bool.{Bool, cond}
+use mathlib.Core.Bool.{cond}
 use mathlib.Core.List.{List, []}
 use lib.Dec.{eqb}
 use lib.ListN.{getD}

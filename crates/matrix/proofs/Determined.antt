@@ -1,8 +1,8 @@
 -- Two results that a public function's contract allows are equal, and so is what they leave of a lent table: each contract is
 -- one equation for the answer and one for the table. Assumes nothing.
-use mathlib.Core.Path.{_≡_, sym, _∙_}
+use mathlib.Core.Path.{sym, _∙_}
 use denote.Ref.{now}
-use Rattle.bits.specs.Promise.{Leaves, Decides, DecidesBoth}
+use Rattle.bits.specs.Promise.{Decides, DecidesBoth}
 use Rattle.matrix.proofs.logic.combine.Reads as combine-reads
 use Rattle.matrix.proofs.search.first_difference.Reads as first-difference-reads
 use Rattle.matrix.proofs.shift.move_one.Reads as move-one-reads

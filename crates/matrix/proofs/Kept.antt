@@ -1,6 +1,6 @@
 -- A refusal changes nothing: whatever a contract allows with a refusal for its answer, the lent table is as it was.
 -- Each contract gives the table by `unless`, whose other case is the table as lent. Assumes nothing.
-use mathlib.Core.Path.{_≡_, sym, ap, _∙_}
+use mathlib.Core.Path.{_≡_, ap, _∙_}
 use mathlib.Core.Bool.{Bool}
 use mathlib.Core.List.{List}
 use Prim.Native.Nat.{ℕ}

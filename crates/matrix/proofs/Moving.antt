@@ -1,22 +1,22 @@
 -- The laws of the move: a word moved by one, with its neighbour's end bit masked in, is a word of the moved matrix; and the
 -- neighbours' end bits are the bits that enter. Over a matrix m of n words, `bits` of which are those of the words given.
 -- Assumes nothing.
-use mathlib.Core.Path.{_≡_, refl, sym, ap, ap₂, _∙_, subst}
+use mathlib.Core.Path.{_≡_, refl, sym, ap, _∙_}
 use mathlib.Core.Bool.{Bool, true, false, cond, _&&_}
 use mathlib.Core.List.{List}
 use mathlib.Core.Logic.{_⊎_, ⊎-elim}
-use Prim.Native.Nat.{ℕ, zero, suc, _+_, _-_, _*_, _≤_, _<_}
+use Prim.Native.Nat.{ℕ, zero, suc, _+_, _-_, _*_, _<_}
 use native.Mathlib.Nat.{eq-or-lt-of-le, le-of-suc-le-suc}
 use native.Mathlib.Numerals.{add-one, sub-one}
 use native.Mathlib.Omega.{arith}
 use borrow.Author.Tests.{eq-eqb, ne-eqb}
-use lib.Dec.{eqb, lit<}
+use lib.Dec.{lit<}
 use lib.ListN.{getD}
 use Rattle.bits.specs.Bit.{bit, of, word}
 use Rattle.bits.specs.Word.{leftward, rightward}
 use Rattle.bits.proofs.Digits.{value-cong}
 use Rattle.bits.proofs.Laws.{zero-of}
-use Rattle.matrix.specs.Move.{moved, entering, leaving}
+use Rattle.matrix.specs.Move.{moved, leaving}
 
 module _ (m : List ℕ) (n : ℕ) (wrap : Bool) where
   -- what stands at a position after the move: the bit that enters, or the bit beside it

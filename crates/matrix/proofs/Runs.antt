@@ -1,11 +1,11 @@
 -- The laws of runs: their words and bits are the table's, and a run is overwritten word by word. Assumes nothing.
-use mathlib.Core.Path.{_≡_, refl, sym, ap, ap₂, _∙_, subst}
+use mathlib.Core.Path.{_≡_, sym, ap, ap₂, _∙_}
 use mathlib.Core.Bool.{Bool}
-use mathlib.Core.List.{List, [], _∷_, _++_}
-use Prim.Native.Nat.{ℕ, zero, suc, _+_, _-_, _*_, _≤_, _<_}
+use mathlib.Core.List.{List, _++_}
+use Prim.Native.Nat.{ℕ, suc, _+_, _-_, _*_, _≤_, _<_}
 use native.Mathlib.Numerals.{add-one}
 use native.Mathlib.Omega.{arith}
-use lib.ListN.{length, getD, take, drop, set, length-take, length-drop}
+use lib.ListN.{length, getD, take, drop, set, length-drop}
 use lib.Seq.{paste, paste-zero, paste-suc, length-paste, drop-paste, take-length, getD-take, getD-drop, length-take-le}
 use Rattle.bits.specs.Bit.{bit, of, word, matrix}
 use Rattle.bits.proofs.Matrix.{bit-of, matrix-at, matrix-length}

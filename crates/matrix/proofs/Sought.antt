@@ -12,7 +12,7 @@ use native.Mathlib.Omega.{arith}
 use lib.ListN.{length}
 use Rattle.bits.specs.declared.Verdict.{Verdict}
 use Rattle.matrix.specs.declared.search.Difference.the-variants.{At, Nothing, Refused}
-use Rattle.matrix.specs.Run.{run, fault, longest-whole, verdict}
+use Rattle.matrix.specs.Run.{run, fault, longest-whole}
 use Rattle.matrix.specs.Search.{differing, first, first-differing, reported, first-difference, NoneLater, FirstLater, NothingMeansNone, AtMeansFirst}
 use Rattle.matrix.proofs.Refusals.{unless-done, unless-refused}
 

@@ -4,11 +4,9 @@ use crate::run::copied;
 use crate::run::fault;
 use bits::Verdict;
 ghost use mathlib.Core.Path.{_≡_};
-ghost use Prim.Native.Nat.{ℕ, _+_, _≤_, _<_};
-ghost use lib.ListN.{length, getD};
-ghost use Rattle.bits.specs.Bit.{of, word, matrix};
+ghost use Prim.Native.Nat.{_+_, _<_};
+ghost use Rattle.bits.specs.Bit.{of, word};
 ghost use Rattle.bits.specs.Promise.{Leaves};
-ghost use Rattle.matrix.specs.Run.{placed};
 ghost use Rattle.matrix.specs.Logic.{combined, combine-verdict, combine-table};
 
 pub enum Operation {

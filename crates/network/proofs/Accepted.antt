@@ -2,15 +2,14 @@
 -- earn nothing exactly when the network is sound. Assumes nothing.
 use mathlib.Core.Path.{_≡_, refl, sym, ap, ap₂, _∙_, subst}
 use mathlib.Core.Bool.{Bool, true, false, cond, not, _&&_, false≢true}
-use mathlib.Core.List.{List, [], _∷_}
-use mathlib.Core.Logic.{_↔_}
+use mathlib.Core.List.{List}
 use Prim.Native.Nat.{ℕ, zero, suc, _+_, _-_, _*_, _/_, _%_, _≤_, _<_}
 use native.Mathlib.Decide.{decLe, decLt, ℕ-discrete}
 use native.Mathlib.Nat.{lt-of-not-le, le-antisymm}
 use native.Mathlib.Omega.{arith}
-use borrow.Author.Tests.{le-leb, lt-leb, lt-ltb, le-ltb, eq-eqb, ne-eqb, leb-true, ltb-true, eqb-true}
-use lib.Dec.{leb, ltb, eqb, lit<}
-use lib.ListN.{length, getD}
+use borrow.Author.Tests.{lt-ltb, le-ltb, eq-eqb, leb-true, eqb-true}
+use lib.Dec.{leb, eqb, lit<}
+use lib.ListN.{length}
 use Rattle.bits.specs.declared.Verdict.{Verdict}
 use Rattle.network.specs.declared.sizes.Sizes.{Sizes}
 use Rattle.network.specs.declared.rules.Classes.{Classes}
@@ -20,7 +19,7 @@ use Rattle.network.specs.declared.block.Block.{Block}
 use Rattle.network.specs.Table.{most-coils, most-discretes, most-inputs, most-holding, most-constant, discrete, size-of, offset, bad-start, reference-fault}
 use Rattle.network.specs.Rules.{rule, allows}
 use Rattle.network.specs.Record.{word, block-at}
-use Rattle.network.specs.Fault.{class-fault, number-fault, counted as counts, up-to, input-fault, top-words, faults, word-fault}
+use Rattle.network.specs.Fault.{class-fault, number-fault, counted as counts, up-to, input-fault, top-words, word-fault}
 use Rattle.network.specs.Check.{verdict, done, then, seek, most-blocks, sizes-in, head-fault, block-start, fault-in, network-end, leading, left-over, opened, checked}
 use Rattle.network.specs.Sound.{Placed, GoodNode, GoodInput, GoodBlock, Sound, AcceptsExactly}
 use Rattle.network.proofs.Walk.{seek-missing, seek-fault, seek-next, then-first, then-next, le-of-not-lt}

@@ -1,9 +1,9 @@
 -- Two results that a public function's contract allows are equal, and so is what they leave in a lent buffer: each contract
 -- is one equation for the answer and one for the buffer. Of the part that `matrix` shows, the words are decided; that they
 -- are the caller's own is what returning a part of the lent slice means. Assumes nothing.
-use mathlib.Core.Path.{_≡_, sym, _∙_}
+use mathlib.Core.Path.{sym, _∙_}
 use denote.Ref.{now}
-use Rattle.bits.specs.Promise.{Leaves, Decides, DecidesBoth, DecidesWords}
+use Rattle.bits.specs.Promise.{Decides, DecidesBoth, DecidesWords}
 use Rattle.network.proofs.checker.check.Reads as check-reads
 use Rattle.network.proofs.checker.leading.Reads as leading-reads
 use Rattle.network.proofs.checker.opening.Reads as opening-reads

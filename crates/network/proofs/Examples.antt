@@ -1,18 +1,16 @@
 -- Both sides of the edges of document 01, and a network for every refusal, computed by the definitions. Assumes nothing.
 use mathlib.Core.Path.{_≡_, refl}
-use mathlib.Core.Bool.{Bool, true, false}
 use mathlib.Core.List.{List, [], _∷_, _++_}
 use Prim.Native.Nat.{ℕ}
 use Rattle.bits.specs.declared.Verdict.{Verdict}
 use Rattle.network.specs.declared.sizes.Sizes.{Sizes}
-use Rattle.network.specs.declared.block.Block.{Block}
 use Rattle.network.specs.declared.reader.Read.{Read}
 use Rattle.network.specs.declared.reader.Read.the-variants.{Record, Refused}
 use Rattle.network.specs.Table.{reference-fault, start-of, shown, part}
 use Rattle.network.specs.Rules.{rule, allows}
-use Rattle.network.specs.Record.{block-at, spelled}
-use Rattle.network.specs.Fault.{class-fault, number-fault, input-fault, faults, word-fault}
-use Rattle.network.specs.Check.{verdict, done, seek, head-faults, head-fault, fault-in, leading, opened, checked, read-at, read, write-verdict, write-buffer}
+use Rattle.network.specs.Record.{block-at}
+use Rattle.network.specs.Fault.{word-fault}
+use Rattle.network.specs.Check.{verdict, done, seek, head-fault, fault-in, leading, opened, checked, read-at, read, write-verdict, write-buffer}
 
 -- a block's 15 words: kind, n, top and middle node, then three inputs and three coils
 abbrev block : ℕ → ℕ → ℕ → ℕ → ℕ → ℕ → List ℕ → List ℕ

@@ -1,8 +1,8 @@
 -- A refusal changes nothing: with a refusal for its answer, the writer leaves the buffer as it was. Assumes nothing.
-use mathlib.Core.Path.{_≡_, sym, ap, _∙_}
+use mathlib.Core.Path.{_≡_, ap, _∙_}
 use denote.Ref.{now}
 use Rattle.bits.specs.declared.Verdict.{Verdict}
-use Rattle.bits.specs.Promise.{Leaves, Keeps}
+use Rattle.bits.specs.Promise.{Keeps}
 use Rattle.network.proofs.Reading.{buffer-kept}
 use Rattle.network.proofs.writer.write_record.Reads as write-record-reads
 

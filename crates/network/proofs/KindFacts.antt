@@ -1,23 +1,22 @@
 -- What acceptance gives for each kind: the row of a kind says which classes its nodes may have, and a node of such a class
 -- that is placed lies in the table. Assumes nothing.
-use mathlib.Core.Path.{_≡_, refl, sym, ap, ap₂, _∙_, subst}
-use mathlib.Core.Bool.{Bool, true, false, cond, false≢true, _||_}
+use mathlib.Core.Path.{_≡_, refl, sym, ap, _∙_, subst}
+use mathlib.Core.Bool.{true, false, false≢true}
 use mathlib.Core.Logic.{_⊎_, inl, inr, ⊎-elim}
-use Prim.Native.Nat.{ℕ, zero, suc, _+_, _≤_, _<_}
+use Prim.Native.Nat.{ℕ, zero, suc, _+_, _≤_}
 use native.Mathlib.Decide.{ℕ-discrete}
 use native.Mathlib.Omega.{arith}
-use borrow.Author.Tests.{eq-eqb, ne-eqb}
-use lib.Dec.{eqb}
+use borrow.Author.Tests.{ne-eqb}
 use Rattle.network.specs.declared.sizes.Sizes.{Sizes}
 use Rattle.network.specs.declared.rules.Classes.{Classes}
 use Rattle.network.specs.declared.rules.Rule.{Rule}
 use Rattle.network.specs.declared.block.Node.{Node}
 use Rattle.network.specs.declared.block.Block.{Block}
-use Rattle.network.specs.Table.{total, area, size-of, before, offset, start-of}
+use Rattle.network.specs.Table.{area, start-of}
 use Rattle.network.specs.Rules.{any-matrix, written, held, pointers, row, rule, allows}
 use Rattle.network.specs.Fault.{top-words}
 use Rattle.network.specs.Sound.{Placed, GoodNode, GoodBlock}
-use Rattle.network.specs.Kinds.{Lies, Writable, TwoMatrices, Compared, Pointed, KindFacts, AcceptedMeans}
+use Rattle.network.specs.Kinds.{Lies, TwoMatrices, Compared, Pointed, KindFacts, AcceptedMeans}
 use Rattle.network.proofs.Parts.{area-within}
 
 -- ---- the classes of a node

@@ -1,14 +1,14 @@
 -- The laws of the part of a table that is a matrix. Assumes nothing.
-use mathlib.Core.Path.{_≡_, refl, sym, ap, ap₂, _∙_}
-use mathlib.Core.Bool.{Bool, true, false, cond, not, _&&_, _||_, false≢true}
+use mathlib.Core.Path.{_≡_, refl, ap, ap₂, _∙_}
+use mathlib.Core.Bool.{Bool, true, false, cond, _&&_, false≢true}
 use mathlib.Core.List.{List, []}
-use Prim.Native.Nat.{ℕ, _+_, _≤_, _<_}
+use Prim.Native.Nat.{ℕ, _+_, _≤_}
 use native.Mathlib.Omega.{arith}
 use borrow.Author.Tests.{leb-true, eqb-true}
 use lib.Dec.{leb, eqb}
 use lib.ListN.{length, take, drop}
 use Rattle.network.specs.declared.sizes.Sizes.{Sizes}
-use Rattle.network.specs.Table.{allowed, total, discrete, area, size-of, before, offset, bad-start, reference-fault, start-of, longest, shown, part}
+use Rattle.network.specs.Table.{allowed, total, area, size-of, before, offset, bad-start, reference-fault, start-of, longest, shown, part}
 
 -- six tests, of which all must hold
 abbrev pub six : Bool → Bool → Bool → Bool → Bool → Bool → Bool

@@ -1,9 +1,8 @@
 -- The laws of the reader and of the record writer, case by case. Assumes nothing.
-use mathlib.Core.Path.{_≡_, refl, sym, ap, ap₂, _∙_}
+use mathlib.Core.Path.{_≡_, refl, ap, ap₂, _∙_}
 use mathlib.Core.Bool.{Bool, true, false, cond, _&&_}
 use mathlib.Core.List.{List}
 use Prim.Native.Nat.{ℕ, _-_, _≤_, _<_}
-use native.Mathlib.Omega.{arith}
 use borrow.Author.Tests.{le-leb, lt-leb, eq-eqb, ne-eqb}
 use lib.Dec.{leb, eqb}
 use lib.ListN.{length}
@@ -11,7 +10,6 @@ use Rattle.bits.specs.declared.Verdict.{Verdict}
 use Rattle.network.specs.declared.sizes.Sizes.{Sizes}
 use Rattle.network.specs.declared.block.Block.{Block}
 use Rattle.network.specs.declared.checker.Opened.{Opened}
-use Rattle.network.specs.declared.reader.Read.{Read}
 use Rattle.network.specs.declared.reader.Read.the-variants.{Record, Refused}
 use Rattle.network.specs.Table.{allowed}
 use Rattle.network.specs.Record.{block-at, spelled}

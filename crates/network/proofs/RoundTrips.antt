@@ -1,25 +1,24 @@
 -- The round trips: a record's words spell it, and the words of an accepted network are those of its records.
 -- Assumes nothing.
-use mathlib.Core.Path.{_≡_, refl, sym, ap, ap₂, _∙_, subst}
-use mathlib.Core.Bool.{Bool, true, cond, _&&_}
-use mathlib.Core.List.{List, [], _∷_, _++_, append-assoc, append-nil}
-use Prim.Native.Nat.{ℕ, zero, suc, _+_, _-_, _*_, _≤_, _<_}
+use mathlib.Core.Path.{_≡_, refl, sym, ap, _∙_}
+use mathlib.Core.Bool.{true}
+use mathlib.Core.List.{List, _++_, append-assoc}
+use Prim.Native.Nat.{ℕ, zero, suc, _+_, _-_, _≤_, _<_}
 use native.Mathlib.Nat.{add-zero, zero-add, add-assoc}
 use native.Mathlib.Omega.{arith}
 use borrow.Author.Tests.{le-leb}
-use lib.Dec.{leb, lit<}
-use lib.ListN.{length, getD, take, drop, length-append, length-take, length-drop, List·getD-append}
+use lib.Dec.{lit<}
+use lib.ListN.{length, take, drop, length-drop, List·getD-append}
 use lib.Seq.{getD-append-add, getD-take, getD-drop, ext-getD, length-take-le}
 use Rattle.bits.specs.declared.Verdict.{Verdict}
-use Rattle.network.specs.declared.sizes.Sizes.{Sizes}
 use Rattle.network.specs.declared.block.Block.{Block}
 use Rattle.network.specs.Table.{allowed, most-coils, most-discretes, most-inputs, most-holding}
 use Rattle.network.specs.Record.{word, block-at, spelled}
 use Rattle.network.specs.Fault.{word-fault}
-use Rattle.network.specs.Check.{verdict, done, seek, judged, sizes-in, block-start, most-blocks, checked, opened, read-at, read, write-verdict, write-buffer}
+use Rattle.network.specs.Check.{done, judged, sizes-in, block-start, most-blocks, opened, write-verdict}
 use Rattle.network.specs.Sound.{Sound}
-use Rattle.network.specs.RoundTrip.{WrittenIsRead, SameWords, ReadIsWritten}
-use Rattle.network.proofs.Accepted.{accepts-exactly, accepted-done, record-clear, seek-every}
+use Rattle.network.specs.RoundTrip.{WrittenIsRead, ReadIsWritten}
+use Rattle.network.proofs.Accepted.{accepts-exactly, record-clear, seek-every}
 use Rattle.network.proofs.Reading.{in-count, read-record, write-done, buffer-written}
 
 -- ---- a record's own words

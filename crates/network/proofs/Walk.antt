@@ -1,8 +1,8 @@
 -- The laws of `seek`: it goes on where a word earns nothing, stops where one is missing or earns a number, and splits.
 -- Assumes nothing.
-use mathlib.Core.Path.{_≡_, refl, sym, ap, ap₂, _∙_, subst}
-use mathlib.Core.Bool.{Bool, true, false, cond}
-use Prim.Native.Nat.{ℕ, zero, suc, _+_, _-_, _*_, _≤_, _<_}
+use mathlib.Core.Path.{_≡_, refl, sym, ap, ap₂, _∙_}
+use mathlib.Core.Bool.{Bool, cond}
+use Prim.Native.Nat.{ℕ, zero, suc, _+_, _-_, _≤_, _<_}
 use native.Mathlib.Decide.{decLe, decLt, ℕ-discrete}
 use native.Mathlib.Nat.{zero-add, suc-add, add-zero, sub-zero, not-suc-le-zero, lt-of-not-le}
 use native.Mathlib.Numerals.{add-one, sub-one}

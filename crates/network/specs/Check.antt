@@ -1,7 +1,7 @@
 -- The checker (document 01, "Numbers returned"): words are checked from the first on, each when it is reached. A network is
 -- the areas (count 4, four sizes), then the blocks (count, 15 words for each). Assumes nothing.
 use Prim.Native.Nat.{ℕ, zero, suc, _+_, _-_, _*_, _/_, _%_}
-use mathlib.Core.Bool.{Bool, cond, _&&_, _||_}
+use mathlib.Core.Bool.{cond, _&&_}
 use mathlib.Core.List.{List, [], _∷_}
 use lib.Dec.{leb, ltb, eqb}
 use lib.ListN.{length, getD}

@@ -7,7 +7,6 @@ use lib.Dec.{leb, eqb}
 use lib.ListN.{getD}
 use Rattle.network.specs.declared.sizes.Sizes.{Sizes}
 use Rattle.network.specs.declared.rules.Classes.{Classes}
-use Rattle.network.specs.declared.rules.Rule.{Rule}
 use Rattle.network.specs.declared.block.Node.{Node}
 use Rattle.network.specs.declared.block.Input.{Input}
 use Rattle.network.specs.declared.block.Block.{Block}

@@ -6,7 +6,7 @@ use lib.ListN.{length, take, drop}
 use Rattle.network.specs.declared.sizes.Sizes.{Sizes}
 use Rattle.network.specs.declared.block.Block.{Block}
 use Rattle.network.specs.declared.reader.Read.the-variants.{Record}
-use Rattle.network.specs.Record.{word, block-at, spelled}
+use Rattle.network.specs.Record.{word, block-at}
 use Rattle.network.specs.Check.{done, sizes-in, block-start, checked, read, write-verdict, write-buffer}
 
 -- A record that is written, whatever stands before and after its words, is read back as the same record.

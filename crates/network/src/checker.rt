@@ -12,7 +12,7 @@ use bits::Verdict;
 ghost use mathlib.Core.Path.{_≡_};
 ghost use Prim.Native.Nat.{_*_, _≤_, _<_};
 ghost use lib.ListN.{length};
-ghost use Rattle.network.specs.Check.{head-fault, sizes-in, fault-in, seek, then, leading, opened, checked};
+ghost use Rattle.network.specs.Check.{head-fault, sizes-in, fault-in, seek, leading, opened, checked};
 
 // The verdict on a network with what its words spell: the sizes, the count of blocks, and the index after the last block.
 pub struct Opened {

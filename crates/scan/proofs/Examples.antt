@@ -2,10 +2,9 @@
 -- on the left a network in words, a table and outputs, on the right the verdict, the table and the outputs after the scan.
 -- Assumes nothing.
 use mathlib.Core.Path.{_≡_, refl}
-use mathlib.Core.Bool.{Bool, true, false, xor}
-use mathlib.Core.List.{List, [], _∷_, _++_, map}
+use mathlib.Core.Bool.{xor}
+use mathlib.Core.List.{List, [], _∷_, _++_}
 use Prim.Native.Nat.{ℕ}
-use lib.ListN.{length}
 use Rattle.bits.specs.declared.Verdict.{Verdict}
 use Rattle.bits.specs.Bit.{bit, value, matrix}
 use Rattle.matrix.specs.Logic.{combined}
@@ -48,7 +47,10 @@ registers a b c d = 0 ∷ 0 ∷ a ∷ b ∷ c ∷ d ∷ []
 abbrev Outcome : Type 0
 Outcome = Verdict × List ℕ × List ℕ
 
-abbrev scan : List ℕ → List ℕ → List ℕ → Outcome
+unfoldable pub scan : List ℕ → List ℕ → List ℕ → Outcome
+unfolding scan-verdict scan-table scan-outputs step steps blocks-from passes block-table block-outputs
+    combined first moved reset in-range advanced start-of matrix value bit xor
+    opened leading fault-in head-fault head-faults seek word-fault faults class-fault number-fault input-fault reference-fault rule allows block-at
 scan ws t outputs = (scan-verdict ws t outputs, scan-table ws t outputs, scan-outputs ws t outputs)
 
 -- one block in a scan with room for one output
@@ -93,9 +95,7 @@ pub examples :
     ∷ gives (registers 1 0x0001 0 0) 3
     ∷ gives (registers 17 0x0000 0 0) 5
     ∷ [])
-unfolding scan-verdict scan-table scan-outputs step steps blocks-from passes block-table block-outputs
-    combined first moved reset in-range advanced start-of matrix value bit xor
-    opened leading fault-in head-fault head-faults seek word-fault faults class-fault number-fault input-fault reference-fault rule allows block-at
+unfolding scan
 examples = refl
 
 -- ---- several blocks, and several scans
@@ -144,9 +144,7 @@ pub inputs :
     ∷ worked ∷ rested ∷ rested ∷ worked
     ∷ worked ∷ worked ∷ rested
     ∷ [])
-unfolding scan-verdict scan-table scan-outputs step steps blocks-from passes block-table block-outputs
-    combined first moved reset in-range advanced start-of matrix value bit xor
-    opened leading fault-in head-fault head-faults seek word-fault faults class-fault number-fault input-fault reference-fault rule allows block-at
+unfolding scan
 inputs = refl
 
 -- the compare of the bench's example, scan after scan: 1, 16, 1, 16, each with all outputs on
@@ -165,9 +163,7 @@ pub scans :
     ∷ gives (registers 32769 1 0 0) 7
     ∷ gives (registers 32769 16 0 0) 7
     ∷ [])
-unfolding scan-verdict scan-table scan-outputs step steps blocks-from passes block-table block-outputs
-    combined first moved reset in-range advanced start-of matrix value bit xor
-    opened leading fault-in head-fault head-faults seek word-fault faults class-fault number-fault input-fault reference-fault rule allows block-at
+unfolding scan
 scans = refl
 
 -- refused: by the network (5 at word 8), a table that is a word short or a word long (12), outputs shorter than the count
@@ -188,7 +184,5 @@ pub refused :
     ∷ (verdict 5 8, [], [])
     ∷ (done, registers 1 2 3 4, [])
     ∷ [])
-unfolding scan-verdict scan-table scan-outputs step steps blocks-from passes block-table block-outputs
-    combined first moved reset in-range advanced start-of matrix value bit xor
-    opened leading fault-in head-fault head-faults seek word-fault faults class-fault number-fault input-fault reference-fault rule allows block-at
+unfolding scan
 refused = refl

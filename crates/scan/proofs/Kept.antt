@@ -1,11 +1,11 @@
 -- What a scan keeps: a refusal everything, and any scan the length of the table, the discrete inputs and the input registers.
 -- Assumes nothing.
-use mathlib.Core.Path.{_≡_, refl, sym, ap, _∙_, subst}
-use mathlib.Core.Bool.{Bool, true, false, cond, _&&_, false≢true}
+use mathlib.Core.Path.{_≡_, refl, sym, ap, _∙_}
+use mathlib.Core.Bool.{Bool, true, false, cond, _&&_}
 use mathlib.Core.List.{List, [], _∷_, _++_, map}
 use Prim.Native.Nat.{ℕ, zero, suc, _+_, _*_, _≤_, _<_}
 use native.Mathlib.Omega.{arith}
-use borrow.Author.Tests.{eqb-true, eqb-false, eq-eqb, ne-eqb}
+use borrow.Author.Tests.{eqb-true, eqb-false, ne-eqb}
 use lib.Dec.{eqb, leb}
 use lib.ListN.{length, drop}
 use Rattle.bits.specs.declared.Verdict.{Verdict}
@@ -18,7 +18,6 @@ use Rattle.network.specs.Check.{verdict, done, then, sizes-in, block-start, che
 use Rattle.network.specs.Sound.{GoodBlock, Sound}
 use Rattle.network.proofs.Accepted.{accepts-exactly}
 use Rattle.blocks.specs.declared.Power.{Power}
-use Rattle.blocks.specs.Work.{block-table}
 use Rattle.blocks.specs.Truths.{Runs}
 use Rattle.blocks.proofs.Written.{same-long, inputs-stay as block-inputs-stay}
 use Rattle.scan.specs.Input.{power-on}

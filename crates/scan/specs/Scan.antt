@@ -1,7 +1,7 @@
 -- One scan (document 01, "One scan"): blocks run in order; a block takes its three inputs from the table as earlier blocks left
 -- it and from earlier outputs. Assumes nothing.
 use Prim.Native.Nat.{ℕ, zero, suc, _+_, _*_}
-use mathlib.Core.Bool.{Bool, cond, _&&_}
+use mathlib.Core.Bool.{cond, _&&_}
 use mathlib.Core.List.{List, [], _∷_, _++_, map}
 use lib.Dec.{eqb, leb}
 use lib.ListN.{length, drop}

@@ -4,7 +4,6 @@ use mathlib.Core.Path.{_≡_}
 use mathlib.Core.List.{List}
 use lib.ListN.{length}
 use Rattle.bits.specs.Bit.{bit}
-use Rattle.network.specs.declared.sizes.Sizes.{Sizes}
 use Rattle.network.specs.Check.{sizes-in}
 use Rattle.scan.specs.Scan.{scan-verdict, scan-table, scan-outputs}
 

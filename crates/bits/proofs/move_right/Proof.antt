@@ -1,15 +1,15 @@
 -- `bits::move_right` meets its contract: each digit of the word goes down by one, and the end bit of the word before it is
 -- put at the head. Assumes nothing.
-use mathlib.Core.Path.{_≡_, refl, sym, ap, ap₂, _∙_, subst}
+use mathlib.Core.Path.{_≡_, sym, ap, ap₂, _∙_}
 use mathlib.Core.Bool.{Bool, true, false, cond, _||_, _&&_, or-false, and-true, and-false}
-use Prim.Native.Nat.{ℕ, zero, suc, _+_, _-_, _*_, _/_, _%_, _^_, _<_}
-use native.Mathlib.Nat.{mod-eq-of-lt, div-one}
+use Prim.Native.Nat.{ℕ, zero, suc, _-_, _*_, _/_, _%_, _^_, _<_}
+use native.Mathlib.Nat.{div-one}
 use native.Mathlib.Numerals.{sub-one}
 use native.Mathlib.Omega.{arith}
 use borrow.Author.Tests.{ne-eqb}
 use lib.Bits.{bitAnd, bitOr, and-mask, or-lt}
 use lib.Dec.{eqb, lit<, lit≤}
-use Rattle.bits.specs.Bit.{odd, of, bit, value, word}
+use Rattle.bits.specs.Bit.{odd, of, value, word}
 use Rattle.bits.specs.Word.{rightward}
 use Rattle.bits.proofs.move_right.Statement.{statement}
 use Rattle.bits.proofs.move_right.Tie as tie

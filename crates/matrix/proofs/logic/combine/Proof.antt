@@ -1,13 +1,13 @@
 -- `matrix::logic::combine` meets its contract. The loop keeps `Overwriting`: the source stands copied, and the destination's
 -- words passed are the operation's. Assumes nothing.
-use mathlib.Core.Path.{_≡_, refl, sym, ap, ap₂, _∙_}
+use mathlib.Core.Path.{_≡_, sym, ap, ap₂, _∙_}
 use mathlib.Core.Bool.{Bool}
 use mathlib.Core.List.{List}
-use Prim.Native.Nat.{ℕ, suc, _+_, _-_, _*_, _≤_, _<_}
+use Prim.Native.Nat.{ℕ, suc, _+_, _-_, _*_, _<_}
 use native.Mathlib.Omega.{arith}
 use borrow.Author.Needs.{needs}
 use lib.ListN.{length, getD}
-use Rattle.bits.specs.Bit.{bit, of, word, matrix}
+use Rattle.bits.specs.Bit.{bit, of, word}
 use Rattle.bits.proofs.Digits.{value-cong}
 use Rattle.matrix.specs.declared.logic.Operation.{Operation}
 use Rattle.matrix.specs.Run.{run, fault, verdict, longest-whole}

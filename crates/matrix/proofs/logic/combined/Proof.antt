@@ -1,11 +1,16 @@
 -- `matrix::logic::combined` meets its contract: each arm has the operation of its name. Assumes nothing.
 use mathlib.Core.Path.{_≡_, sym, ap, _∙_}
+use Prim.Native.Nat.{ℕ}
 use borrow.Author.Needs.{needs}
 use Rattle.bits.specs.Bit.{of, word}
 use Rattle.matrix.specs.declared.logic.Operation.{Operation}
 use Rattle.matrix.specs.Logic.{combined}
 use Rattle.matrix.proofs.logic.combined.Statement.{statement}
 use Rattle.matrix.proofs.logic.combined.Tie as tie
+
+-- an arm's operation is the one that is asked for
+arm : (s d : ℕ) {o asked : Operation} → asked ≡ o → word (λ p. combined o (of s p) (of d p)) ≡ word (λ p. combined asked (of s p) (of d p))
+arm s d e = ap (λ (o : Operation). word (λ p. combined o (of s p) (of d p))) (sym e)
 
 enum-told : tie.Need-enum-told
 enum-told c = search needs
@@ -35,25 +40,25 @@ returns : tie.Need-returns
 unfolding combined
 returns c =
     let x = c .before .before .before .args in
-    c .and-words .ensures ∙ ap (λ (o : Operation). word (λ p. combined o (of (x .s) p) (of (x .d) p))) (sym (c .before .enum-told .given .1))
+    c .and-words .ensures ∙ arm (x .s) (x .d) (c .before .enum-told .given .1)
 
 returns-2 : tie.Need-returns-2
 unfolding combined
 returns-2 c =
     let x = c .before .before .before .args in
-    c .or-words .ensures ∙ ap (λ (o : Operation). word (λ p. combined o (of (x .s) p) (of (x .d) p))) (sym (c .before .enum-told2 .given .1))
+    c .or-words .ensures ∙ arm (x .s) (x .d) (c .before .enum-told2 .given .1)
 
 returns-3 : tie.Need-returns-3
 unfolding combined
 returns-3 c =
     let x = c .before .before .before .args in
-    c .xor-words .ensures ∙ ap (λ (o : Operation). word (λ p. combined o (of (x .s) p) (of (x .d) p))) (sym (c .before .enum-told3 .given .1))
+    c .xor-words .ensures ∙ arm (x .s) (x .d) (c .before .enum-told3 .given .1)
 
 returns-4 : tie.Need-returns-4
 unfolding combined
 returns-4 c =
     let x = c .before .before .before .args in
-    c .complement .ensures ∙ ap (λ (o : Operation). word (λ p. combined o (of (x .s) p) (of (x .d) p))) (sym (c .before .enum-told4 .given .1))
+    c .complement .ensures ∙ arm (x .s) (x .d) (c .before .enum-told4 .given .1)
 
 pub combined-spec : {M : Type 1} → statement M
 combined-spec =

@@ -1,10 +1,10 @@
 -- `matrix::run::copied` meets its contract. The loop's invariant: the words passed stand at the front of the array.
 -- Assumes nothing.
-use mathlib.Core.Path.{_≡_, refl, ap, _∙_}
+use mathlib.Core.Path.{_≡_, refl, _∙_}
 use Prim.Native.Nat.{ℕ, _+_, _-_, _≤_, _<_}
 use native.Mathlib.Omega.{arith}
 use borrow.Author.Count.{below-none, below-more}
-use lib.ListN.{length, getD, set, length-set}
+use lib.ListN.{length, getD, length-set}
 use lib.Seq.{getD-set-same, getD-set-other}
 use Rattle.matrix.proofs.run.copied.Statement.{statement}
 use Rattle.matrix.proofs.run.copied.Tie as tie

@@ -1,14 +1,14 @@
 -- `matrix::search::first_difference` meets its contract: a refusal first, then the position after those passed, or nothing.
 -- Assumes nothing.
-use mathlib.Core.Path.{_≡_, sym, ap, _∙_}
+use mathlib.Core.Path.{sym, ap, _∙_}
 use mathlib.Core.Bool.{Bool, cond}
-use mathlib.Core.Option.{Option, none, some}
-use Prim.Native.Nat.{ℕ, _+_, _*_}
+use mathlib.Core.Option.{none, some}
+use Prim.Native.Nat.{ℕ, _+_}
 use native.Mathlib.Omega.{arith}
 use borrow.Author.Needs.{needs}
 use borrow.Author.Tests.{lt-ltb, le-ltb}
 use lib.ListN.{length}
-use Rattle.matrix.specs.declared.search.Difference.the-variants.{At, Nothing, Refused}
+use Rattle.matrix.specs.declared.search.Difference.the-variants.{Refused}
 use Rattle.matrix.specs.Run.{fault, verdict, longest-whole}
 use Rattle.matrix.specs.Search.{reported, first-difference}
 use Rattle.matrix.specs.Inner.{Accepted}

@@ -11,7 +11,7 @@ use native.Mathlib.Omega.{arith}
 use borrow.Author.Needs.{needs}
 use borrow.Author.Tests.{lt-ltb, le-ltb}
 use lib.ListN.{length, getD}
-use Rattle.bits.specs.Bit.{bit, of, word}
+use Rattle.bits.specs.Bit.{of, word}
 use Rattle.bits.proofs.Laws.{of-word, zero-of}
 use Rattle.matrix.specs.Run.{run, longest-whole}
 use Rattle.matrix.specs.Search.{differing, first-differing}

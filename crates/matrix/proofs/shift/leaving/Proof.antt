@@ -1,5 +1,5 @@
 -- `matrix::shift::leaving` meets its contract: the bit is read at the end that the move goes to. Assumes nothing.
-use mathlib.Core.Path.{_≡_, sym, ap, _∙_}
+use mathlib.Core.Path.{sym, ap, _∙_}
 use mathlib.Core.Bool.{Bool, cond}
 use borrow.Author.Needs.{needs}
 use Rattle.bits.specs.Bit.{of}

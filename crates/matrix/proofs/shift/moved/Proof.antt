@@ -1,5 +1,5 @@
 -- `matrix::shift::moved` meets its contract: each arm moves the word in its direction. Assumes nothing.
-use mathlib.Core.Path.{_≡_, sym, ap, _∙_}
+use mathlib.Core.Path.{sym, ap, _∙_}
 use mathlib.Core.Bool.{Bool, cond}
 use borrow.Author.Needs.{needs}
 use Rattle.bits.specs.Bit.{word}

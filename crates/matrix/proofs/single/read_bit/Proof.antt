@@ -1,11 +1,9 @@
 -- `matrix::single::read_bit` meets its contract: the position is bit (p - 1) % 16 + 1 of word (p - 1) / 16. Assumes nothing.
 use mathlib.Core.Path.{_≡_, sym, ap, _∙_}
-use mathlib.Core.Bool.{Bool}
 use Prim.Native.Nat.{ℕ}
 use native.Mathlib.Omega.{arith}
 use borrow.Author.Needs.{needs}
 use lib.ListN.{length}
-use Rattle.matrix.specs.declared.answer.Answer.{Answer}
 use Rattle.matrix.specs.declared.answer.Answer.the-variants.{Bit, Refused}
 use Rattle.matrix.specs.Run.{fault-at, verdict}
 use Rattle.matrix.specs.Single.{read-answer}

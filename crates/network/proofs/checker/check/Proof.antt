@@ -1,6 +1,6 @@
 -- `network::checker::check` meets its contract. Assumes nothing.
 use borrow.Author.Needs.{needs}
-use mathlib.Core.Path.{_≡_, refl, sym, ap, _∙_}
+use mathlib.Core.Path.{ap}
 use Rattle.network.specs.declared.checker.Opened.{Opened}
 use Rattle.network.proofs.checker.check.Statement.{statement}
 use Rattle.network.proofs.checker.check.Tie as tie

@@ -1,13 +1,12 @@
 -- `network::checker::head` meets its contract. The loop keeps that the first refusal from here on is the first of all. Assumes nothing.
 use borrow.Author.Needs.{needs}
 use native.Mathlib.Omega.{arith}
-use mathlib.Core.Path.{_≡_, refl, sym, ap, _∙_}
-use Prim.Native.Nat.{ℕ, suc, _+_, _-_, _*_, _≤_, _<_}
+use mathlib.Core.Path.{_≡_, sym, ap, _∙_}
+use Prim.Native.Nat.{ℕ, _+_, _-_}
 use native.Mathlib.Nat.{zero-add}
 use denote.Ref.{now}
 use lib.ListN.{length}
-use Rattle.network.specs.Record.{word}
-use Rattle.network.specs.Check.{verdict, seek, fault-in, head-fault}
+use Rattle.network.specs.Check.{verdict, fault-in, head-fault}
 use Rattle.network.proofs.Walk.{Reached, begun, stop-missing, stop-fault, go-on, passed}
 use Rattle.network.proofs.Networks.{in-head}
 use Rattle.network.proofs.checker.head.Statement.{statement}

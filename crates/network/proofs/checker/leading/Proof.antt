@@ -1,7 +1,7 @@
 -- `network::checker::leading` meets its contract: the head is judged first, then the blocks. Assumes nothing.
 use borrow.Author.Needs.{needs}
 use native.Mathlib.Omega.{arith}
-use mathlib.Core.Path.{_≡_, refl, sym, ap, _∙_}
+use mathlib.Core.Path.{ap, _∙_}
 use Prim.Native.Nat.{ℕ, _+_, _-_, _*_}
 use denote.Ref.{now}
 use lib.ListN.{length}

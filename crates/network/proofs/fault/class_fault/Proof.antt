@@ -1,6 +1,6 @@
 -- `network::fault::class_fault` meets its contract. Assumes nothing.
 use borrow.Author.Needs.{needs}
-use mathlib.Core.Path.{_≡_, refl, sym, ap, _∙_}
+use mathlib.Core.Path.{sym, ap, _∙_}
 use mathlib.Core.Bool.{Bool, cond}
 use Rattle.network.specs.Fault.{class-fault}
 use Rattle.network.proofs.fault.class_fault.Statement.{statement}

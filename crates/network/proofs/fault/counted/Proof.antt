@@ -1,5 +1,5 @@
 -- `network::fault::counted` meets its contract, its tests being those of the definition. Assumes nothing.
-use mathlib.Core.Path.{_≡_, refl, sym, ap, _∙_}
+use mathlib.Core.Path.{sym}
 use Rattle.network.proofs.Faults.{counted-in, counted-low, counted-high}
 use Rattle.network.proofs.fault.counted.Statement.{statement}
 use Rattle.network.proofs.fault.counted.Tie as tie

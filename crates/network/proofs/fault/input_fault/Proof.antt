@@ -1,6 +1,6 @@
 -- `network::fault::input_fault` meets its contract, its tests being those of the definition. Assumes nothing.
 use borrow.Author.Needs.{needs}
-use mathlib.Core.Path.{_≡_, refl, sym, ap, _∙_}
+use mathlib.Core.Path.{sym, _∙_}
 use Rattle.network.proofs.Faults.{input-fixed, input-coil, input-discrete, input-output}
 use Rattle.network.proofs.fault.input_fault.Statement.{statement}
 use Rattle.network.proofs.fault.input_fault.Tie as tie

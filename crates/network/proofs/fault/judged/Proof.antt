@@ -1,11 +1,10 @@
 -- `network::fault::judged` meets its contract. The loop keeps that the first refusal from here on is the first of all. Assumes nothing.
 use borrow.Author.Needs.{needs}
 use native.Mathlib.Omega.{arith}
-use mathlib.Core.Path.{_≡_, refl, sym, ap, _∙_}
-use Prim.Native.Nat.{ℕ, suc, _+_, _-_, _*_, _≤_, _<_}
+use mathlib.Core.Path.{_≡_, sym, ap, _∙_}
+use Prim.Native.Nat.{_+_, _-_}
 use native.Mathlib.Nat.{add-sub-cancel-left}
 use Rattle.network.specs.Fault.{word-fault}
-use Rattle.network.specs.Check.{seek, judged}
 use Rattle.network.proofs.Walk.{Reached, begun, stop-missing, stop-fault, go-on, passed}
 use Rattle.network.proofs.fault.judged.Statement.{statement}
 use Rattle.network.proofs.fault.judged.Tie as tie

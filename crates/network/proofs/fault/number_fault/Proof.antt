@@ -1,6 +1,6 @@
 -- `network::fault::number_fault` meets its contract, its tests being those of the definition. Assumes nothing.
 use borrow.Author.Needs.{needs}
-use mathlib.Core.Path.{_≡_, refl, sym, ap, _∙_}
+use mathlib.Core.Path.{sym, _∙_}
 use Rattle.network.proofs.Faults.{of-constant, no-constant}
 use Rattle.network.proofs.fault.number_fault.Statement.{statement}
 use Rattle.network.proofs.fault.number_fault.Tie as tie

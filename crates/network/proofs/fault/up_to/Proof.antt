@@ -1,5 +1,5 @@
 -- `network::fault::up_to` meets its contract, its tests being those of the definition. Assumes nothing.
-use mathlib.Core.Path.{_≡_, refl, sym, ap, _∙_}
+use mathlib.Core.Path.{sym}
 use Rattle.network.proofs.Faults.{up-to-in, up-to-out}
 use Rattle.network.proofs.fault.up_to.Statement.{statement}
 use Rattle.network.proofs.fault.up_to.Tie as tie

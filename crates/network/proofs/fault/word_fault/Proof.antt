@@ -1,7 +1,7 @@
 -- `network::fault::word_fault` meets its contract, arm by arm. Assumes nothing.
 use borrow.Author.Needs.{needs}
 use native.Mathlib.Omega.{arith}
-use mathlib.Core.Path.{_≡_, refl, sym, ap, _∙_}
+use mathlib.Core.Path.{_≡_, sym, ap, _∙_}
 use Prim.Native.Nat.{ℕ, zero, suc, _+_, _<_}
 use Rattle.network.specs.declared.sizes.Sizes.{Sizes}
 use Rattle.network.specs.declared.rules.Rule.{Rule}

@@ -1,6 +1,6 @@
 -- `network::part::start` meets its contract. Assumes nothing.
 use borrow.Author.Needs.{needs}
-use mathlib.Core.Path.{_≡_, ap₂}
+use mathlib.Core.Path.{ap₂}
 use Prim.Native.Nat.{ℕ, _+_}
 use Rattle.network.specs.Table.{start-of}
 use Rattle.network.proofs.part.start.Statement.{statement}

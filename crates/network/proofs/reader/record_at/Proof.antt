@@ -1,6 +1,6 @@
 -- `network::reader::record_at` meets its contract. Assumes nothing.
 use borrow.Author.Needs.{needs}
-use mathlib.Core.Path.{_≡_, refl, sym, ap, _∙_}
+use mathlib.Core.Path.{sym, ap, _∙_}
 use denote.Ref.{now}
 use Rattle.network.specs.declared.reader.Read.the-variants.{Record}
 use Rattle.network.proofs.Reading.{read-refused, read-none, read-record, below-count, above-count}

@@ -1,6 +1,6 @@
 -- `network::reader::record_of` meets its contract. Assumes nothing.
 use borrow.Author.Needs.{needs}
-use mathlib.Core.Path.{_≡_, refl, sym, ap, _∙_}
+use mathlib.Core.Path.{ap, _∙_}
 use denote.Ref.{now}
 use Rattle.network.specs.declared.checker.Opened.{Opened}
 use Rattle.network.specs.Check.{read-at}

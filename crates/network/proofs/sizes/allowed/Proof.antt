@@ -1,6 +1,6 @@
 -- `network::sizes::allowed` meets its contract, its tests being those of the definition. Assumes nothing.
 use borrow.Author.Needs.{needs}
-use mathlib.Core.Path.{_≡_, refl, sym, ap, _∙_}
+use mathlib.Core.Path.{refl, sym}
 use mathlib.Core.Bool.{true, false}
 use borrow.Author.Tests.{le-leb, lt-leb}
 use Rattle.network.specs.Table.{most-coils, most-discretes, most-inputs, most-holding}

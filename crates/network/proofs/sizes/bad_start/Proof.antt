@@ -1,7 +1,7 @@
 -- `network::sizes::bad_start` meets its contract. Assumes nothing.
 use borrow.Author.Needs.{needs}
-use mathlib.Core.Path.{_≡_, refl, sym, ap, _∙_}
-use mathlib.Core.Bool.{Bool, cond, not, _&&_}
+use mathlib.Core.Path.{sym, ap, _∙_}
+use mathlib.Core.Bool.{Bool, not, _&&_}
 use Prim.Native.Nat.{_%_}
 use lib.Dec.{eqb}
 use Rattle.network.proofs.sizes.bad_start.Statement.{statement}

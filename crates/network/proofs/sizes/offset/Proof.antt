@@ -1,6 +1,6 @@
 -- `network::sizes::offset` meets its contract. Assumes nothing.
 use borrow.Author.Needs.{needs}
-use mathlib.Core.Path.{_≡_, refl, sym, ap, _∙_}
+use mathlib.Core.Path.{sym, _∙_}
 use Rattle.network.proofs.References.{offset-none, offset-discrete, offset-register}
 use Rattle.network.proofs.sizes.offset.Statement.{statement}
 use Rattle.network.proofs.sizes.offset.Tie as tie

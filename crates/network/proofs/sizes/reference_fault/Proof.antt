@@ -1,7 +1,7 @@
 -- `network::sizes::reference_fault` meets its contract. Assumes nothing.
 use borrow.Author.Needs.{needs}
 use native.Mathlib.Omega.{arith}
-use mathlib.Core.Path.{_≡_, refl, sym, ap, _∙_}
+use mathlib.Core.Path.{sym, _∙_}
 use Rattle.network.proofs.References.{reference-none, reference-bad, reference-inside, reference-past}
 use Rattle.network.proofs.sizes.reference_fault.Statement.{statement}
 use Rattle.network.proofs.sizes.reference_fault.Tie as tie

@@ -1,11 +1,11 @@
 -- `network::writer::spell` meets its contract: fifteen stores, one after the other. Assumes nothing.
 use native.Mathlib.Omega.{arith}
-use mathlib.Core.Path.{_≡_, refl, sym, ap, _∙_}
+use mathlib.Core.Path.{ap, _∙_}
 use mathlib.Core.List.{List, _++_, append-nil}
 use Prim.Native.Nat.{ℕ}
 use denote.Ref.{now}
 use lib.ListN.{length-set, drop-of-length-le}
-use lib.Seq.{sets, sets-eq}
+use lib.Seq.{sets-eq}
 use Rattle.network.specs.Record.{spelled}
 use Rattle.network.proofs.writer.spell.Statement.{statement}
 use Rattle.network.proofs.writer.spell.Tie as tie

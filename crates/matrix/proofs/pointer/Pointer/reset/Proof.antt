@@ -1,5 +1,5 @@
 -- `matrix::pointer::Pointer::reset` meets its contract, case by case. Assumes nothing.
-use mathlib.Core.Path.{_≡_, sym, _∙_}
+use mathlib.Core.Path.{sym, _∙_}
 use borrow.Author.Needs.{needs}
 use borrow.Author.Tests.{not-true, not-false}
 use Rattle.matrix.proofs.Pointers.{reset-none, reset-to, reset-other}
