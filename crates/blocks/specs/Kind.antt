@@ -14,6 +14,7 @@ pub data Kind : Type 0 where
   SENS : Kind
   BROT : Kind
 
+-- the kind of a number; no record that the checker takes has another than 1 to 8
 unfoldable pub kind-of : ℕ → Kind
 kind-of k =
     cond (eqb k 1) AND

@@ -27,7 +27,8 @@ abbrev pub of-block : List Power → ℕ → Power
 of-block outs number = getD outs (number - 1) no-power
 
 -- Codes: 0 never, 1 always; 2 and 3 open and closed contact of a coil, 4 and 5 of a discrete input: an open contact passes
--- power when its bit is 1, a closed one when it is 0; 6, 7, 8 the top, middle, bottom output of an earlier block.
+-- power when its bit is 1, a closed one when it is 0; 6, 7, 8 the top, middle, bottom output of an earlier block. No input that
+-- the checker takes has another code.
 unfoldable pub passes : Sizes → List ℕ → List Power → Input → Bool
 passes z t outs input =
     cond (eqb (input .code) 0) false
