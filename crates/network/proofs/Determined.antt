@@ -12,6 +12,7 @@ use Rattle.network.proofs.reader.record_of.Reads as record-of-reads
 use Rattle.network.proofs.writer.write_record.Reads as write-record-reads
 use Rattle.network.proofs.part.matrix.Reads as matrix-reads
 use Rattle.network.proofs.part.start.Reads as start-reads
+use Rattle.network.proofs.part.total.Reads as total-reads
 
 pub check : Decides check-reads.Post
 check κs a x y s t p q = p ∙ sym q
@@ -36,3 +37,6 @@ matrix κs a x y s t p q = p ∙ sym q
 
 pub start : Decides start-reads.Post
 start κs a x y s t p q = p ∙ sym q
+
+pub total : Decides total-reads.Post
+total κs a x y s t p q = p ∙ sym q

@@ -23,6 +23,7 @@ pub use checker::leading;
 pub use checker::opening;
 pub use part::matrix;
 pub use part::start;
+pub use part::total;
 pub use reader::Read;
 pub use reader::record_at;
 pub use reader::record_of;

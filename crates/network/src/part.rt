@@ -28,7 +28,8 @@ fn area(class: u16) -> bool
     false
 }
 
-fn total(sizes: Sizes) -> u32
+// How many words a table of these areas has.
+pub fn total(sizes: Sizes) -> u32
     ensures { λ r. ⌜ r ≡ total sizes ⌝ }
 {
     sizes.coils as u32 + sizes.discretes as u32 + sizes.inputs as u32 + sizes.holding as u32
