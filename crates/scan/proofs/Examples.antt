@@ -147,21 +147,32 @@ pub inputs :
 unfolding scan
 inputs = refl
 
--- the compare of the bench's example, scan after scan: 1, 16, 1, 16, each with all outputs on
-abbrev again : List ℕ → List ℕ
-again t = scan-table (usual 5 1 top-on) t (0 ∷ [])
+-- a scan of the table and the outputs that the one before left
+abbrev onward : List ℕ → Outcome → Outcome
+onward ws before = scan ws (before .1) (before .2)
 
+abbrev bench : List ℕ
+bench = usual 5 1 top-on
+
+-- scan after scan: the compare of the bench's example reports 1, 16, 1, 16, each with all outputs on; one whose last bit does
+-- not differ reports 2, none, 2
 pub scans :
     _≡_ {A = List Outcome}
-    (does (usual 5 1 top-on) (registers 32769 0 0 0)
-    ∷ does (usual 5 1 top-on) (again (registers 32769 0 0 0))
-    ∷ does (usual 5 1 top-on) (again (again (registers 32769 0 0 0)))
-    ∷ does (usual 5 1 top-on) (again (again (again (registers 32769 0 0 0))))
+    (does bench (registers 32769 0 0 0)
+    ∷ onward bench (does bench (registers 32769 0 0 0))
+    ∷ onward bench (onward bench (does bench (registers 32769 0 0 0)))
+    ∷ onward bench (onward bench (onward bench (does bench (registers 32769 0 0 0))))
+    ∷ does bench (registers 0x0000 0 0x4000 0)
+    ∷ onward bench (does bench (registers 0x0000 0 0x4000 0))
+    ∷ onward bench (onward bench (does bench (registers 0x0000 0 0x4000 0)))
     ∷ [])
     (gives (registers 32769 1 0 0) 7
     ∷ gives (registers 32769 16 0 0) 7
     ∷ gives (registers 32769 1 0 0) 7
     ∷ gives (registers 32769 16 0 0) 7
+    ∷ gives (registers 0x0000 2 0x4000 0) 3
+    ∷ gives (registers 0x0000 16 0x4000 0) 1
+    ∷ gives (registers 0x0000 2 0x4000 0) 3
     ∷ [])
 unfolding scan
 scans = refl

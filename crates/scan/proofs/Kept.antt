@@ -5,11 +5,13 @@ use mathlib.Core.Bool.{Bool, true, false, cond, _&&_}
 use mathlib.Core.List.{List, [], _∷_, _++_, map}
 use Prim.Native.Nat.{ℕ, zero, suc, _+_, _*_, _≤_, _<_}
 use native.Mathlib.Omega.{arith}
-use borrow.Author.Tests.{eqb-true, eqb-false, ne-eqb}
+use borrow.Author.Tests.{eqb-true, eqb-false, ne-eqb, leb-true}
+use denote.Ref.{now}
 use lib.Dec.{eqb, leb}
 use lib.ListN.{length, drop}
 use Rattle.bits.specs.declared.Verdict.{Verdict}
 use Rattle.bits.specs.Bit.{bit}
+use Rattle.bits.specs.Promise.{Keeps}
 use Rattle.network.specs.declared.sizes.Sizes.{Sizes}
 use Rattle.network.specs.declared.block.Block.{Block}
 use Rattle.network.specs.Table.{total}
@@ -23,6 +25,7 @@ use Rattle.blocks.proofs.Written.{same-long, inputs-stay as block-inputs-stay}
 use Rattle.scan.specs.Input.{power-on}
 use Rattle.scan.specs.Scan.{State, step, steps, blocks-from, scanned, packed, scan-verdict, scan-table, scan-outputs}
 use Rattle.scan.specs.Truths.{RefusalKeeps, SameLong, InputsStay}
+use Rattle.scan.proofs.scan.Reads as scan-reads
 
 -- ---- blocks that may follow so many earlier ones
 data Each (z : Sizes) : ℕ → List Block → Type 0 where
@@ -72,7 +75,7 @@ then-second v w h = go (eqb (v .number) 0) refl h
     go false e q = absurd (eqb-false (v .number) 0 e q)
 
 module _ (ws t outputs : List ℕ) where
-  exact-table : scan-verdict ws t outputs .number ≡ 0 → length t ≡ total (sizes-in ws)
+  pub exact-table : scan-verdict ws t outputs .number ≡ 0 → length t ≡ total (sizes-in ws)
   unfolding scan-verdict
   exact-table h = go (eqb (length t) (total (sizes-in ws))) refl (leb (word ws 5) (length outputs)) (then-second (checked ws) _ h)
     where
@@ -80,15 +83,36 @@ module _ (ws t outputs : List ℕ) where
       go true e c q = eqb-true (length t) (total (sizes-in ws)) e
       go false e c q = absurd (omega arith)
 
-  accepted : scan-verdict ws t outputs .number ≡ 0 → Sound ws
+  -- there is an entry for every block
+  pub enough : scan-verdict ws t outputs .number ≡ 0 → word ws 5 ≤ length outputs
   unfolding scan-verdict
-  accepted h = accepts-exactly ws .0 (then-first (checked ws) _ h)
+  enough h = go (eqb (length t) (total (sizes-in ws))) (leb (word ws 5) (length outputs)) refl (then-second (checked ws) _ h)
+    where
+      go : (a c : Bool) → leb (word ws 5) (length outputs) ≡ c → cond (a && c) done (verdict 12 0) .number ≡ 0 → word ws 5 ≤ length outputs
+      go true true e q = leb-true (word ws 5) (length outputs) e
+      go true false e q = absurd (omega arith)
+      go false c e q = absurd (omega arith)
 
-  after-scan : scan-verdict ws t outputs .number ≡ 0 → Same (sizes-in ws) t (scanned ws t .table)
-  after-scan h =
-      kept (sizes-in ws) t 0 (blocks-from ws 0 (word ws 5)) (each-from ws (word ws 5) 0 (λ i l. accepted h .blocks i (omega arith)))
+  pub checks : scan-verdict ws t outputs .number ≡ 0 → checked ws .number ≡ 0
+  unfolding scan-verdict
+  checks h = then-first (checked ws) _ h
+
+  pub accepted : scan-verdict ws t outputs .number ≡ 0 → Sound ws
+  accepted h = accepts-exactly ws .0 (checks h)
+
+  -- after any number of the blocks
+  after-blocks : scan-verdict ws t outputs .number ≡ 0 → (k : ℕ) → k ≤ word ws 5 → Same (sizes-in ws) t (steps (sizes-in ws) (blocks-from ws 0 k) (record { table = t; outs = [] }) .table)
+  after-blocks h k u =
+      kept (sizes-in ws) t 0 (blocks-from ws 0 k) (each-from ws k 0 (λ i l. accepted h .blocks i (omega arith)))
       (record { table = t; outs = [] })
       (record { exact = exact-table h; inputs = λ p l u. refl })
+
+  pub exact-after : scan-verdict ws t outputs .number ≡ 0 → (k : ℕ) → k ≤ word ws 5
+      → length (steps (sizes-in ws) (blocks-from ws 0 k) (record { table = t; outs = [] }) .table) ≡ total (sizes-in ws)
+  exact-after h k u = after-blocks h k u .exact
+
+  after-scan : scan-verdict ws t outputs .number ≡ 0 → Same (sizes-in ws) t (scanned ws t .table)
+  after-scan h = after-blocks h (word ws 5) (omega arith)
 
 pub refusal-keeps : RefusalKeeps
 unfolding scan-table scan-outputs
@@ -96,6 +120,15 @@ refusal-keeps ws t outputs h = (
   ap (λ (a : Bool). cond a (scanned ws t .table) t) (ne-eqb (scan-verdict ws t outputs .number) 0 h),
   ap (λ (a : Bool). cond a (map packed (scanned ws t .outs) ++ drop (word ws 5) outputs) outputs) (ne-eqb (scan-verdict ws t outputs .number) 0 h),
 )
+
+-- and so whatever the contract allows with a refusal for its answer
+pub scan-keeps-table : Keeps scan-reads.Post (λ κs v. v .number ≡ 0 → ⊥) (λ κs a. now (a .1 .0)) (λ κs s. now (s .1 .0))
+scan-keeps-table κs a v s p h =
+    p .leaves-one ∙ refusal-keeps _ _ _ (λ e. h (ap (λ (x : Verdict). x .number) (p .answers) ∙ e)) .0
+
+pub scan-keeps-outputs : Keeps scan-reads.Post (λ κs v. v .number ≡ 0 → ⊥) (λ κs a. now (a .1 .1 .0)) (λ κs s. now (s .1 .1 .0))
+scan-keeps-outputs κs a v s p h =
+    p .leaves-other ∙ refusal-keeps _ _ _ (λ e. h (ap (λ (x : Verdict). x .number) (p .answers) ∙ e)) .1
 
 pub same-long-after : SameLong
 unfolding scan-table

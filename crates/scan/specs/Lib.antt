@@ -3,3 +3,4 @@
 pub mod Input
 pub mod Scan
 pub mod Truths
+pub mod Inner

@@ -6,6 +6,7 @@ use mathlib.Core.List.{List, [], _∷_, _++_, map}
 use lib.Dec.{eqb, leb}
 use lib.ListN.{length, drop}
 use Rattle.bits.specs.declared.Verdict.{Verdict}
+use Rattle.bits.specs.Bit.{of}
 use Rattle.network.specs.declared.sizes.Sizes.{Sizes}
 use Rattle.network.specs.declared.block.Block.{Block}
 use Rattle.network.specs.Table.{total}
@@ -44,6 +45,10 @@ scanned ws t = steps (sizes-in ws) (blocks-from ws 0 (word ws 5)) (record { tabl
 -- three outputs as one number: top is worth 1, middle 2, bottom 4
 abbrev pub packed : Power → ℕ
 packed out = cond (out .top) 1 0 + 2 * cond (out .middle) 1 0 + 4 * cond (out .bottom) 1 0
+
+-- and a number as three outputs
+abbrev pub unpacked : ℕ → Power
+unpacked w = record { top = of w 16; middle = of w 15; bottom = of w 14 }
 
 -- the network's refusals, then 12 for a table that is not exactly the sum of the areas, or outputs shorter than the count
 unfoldable pub scan-verdict : List ℕ → List ℕ → List ℕ → Verdict

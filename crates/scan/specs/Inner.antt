@@ -1,0 +1,143 @@
+-- What the contracts of the crate's own functions cite, beside the definitions that a caller reads: a kind's work by the
+-- indexes of its words, and what a block of a checked network may rely on. Assumes nothing.
+use Prim.Native.Nat.{ℕ, _+_, _*_, _≤_, _<_}
+use mathlib.Core.Path.{_≡_}
+use mathlib.Core.Bool.{Bool, cond}
+use mathlib.Core.List.{List, [], _++_, map}
+use mathlib.Core.Option.{none, some}
+use lib.Dec.{eqb}
+use lib.ListN.{length, getD, drop, set}
+use Rattle.bits.specs.Bit.{bit, matrix}
+use Rattle.bits.specs.Promise.{Leaves}
+use Rattle.matrix.specs.declared.logic.Operation.{Operation}
+use Rattle.matrix.specs.declared.logic.Operation.the-variants.{And, Or, Xor, Comp}
+use Rattle.matrix.specs.declared.pointer.Pointer.{Pointer}
+use Rattle.matrix.specs.Run.{run}
+use Rattle.matrix.specs.Pointer.{reset, advanced}
+use Rattle.network.specs.declared.sizes.Sizes.{Sizes}
+use Rattle.network.specs.declared.block.Node.{Node}
+use Rattle.network.specs.declared.block.Inputs.{Inputs}
+use Rattle.network.specs.declared.block.Coils.{Coils}
+use Rattle.network.specs.declared.block.Block.{Block}
+use Rattle.network.specs.declared.checker.Opened.{Opened}
+use Rattle.network.specs.Table.{most-coils, most-discretes}
+use Rattle.network.specs.Record.{word}
+use Rattle.network.specs.Check.{opened}
+use Rattle.network.specs.Sound.{GoodInput}
+use Rattle.blocks.specs.declared.Power.{Power}
+use Rattle.blocks.specs.Kind.{kind-of}
+use Rattle.blocks.specs.View.{first-word, seen}
+use Rattle.blocks.specs.Effect.{Effect, logic, compare, rotate, modify, sense}
+use Rattle.blocks.specs.Work.{pointer-node, matrix-put, one-word, effect-on, outputs, block-outputs, block-table}
+use Rattle.blocks.specs.Truths.{Runs}
+use Rattle.scan.specs.Input.{power-on}
+use Rattle.scan.specs.Scan.{scanned, packed, unpacked, scan-verdict}
+
+-- ---- pointers
+
+-- set to 0 or to 1 where a reset is asked for
+abbrev pub set-to : ℕ → Bool → Pointer → Pointer
+set-to to asked p = cond asked (reset p to) p
+
+-- advanced where an increase is asked for
+abbrev pub next-of : Bool → Pointer → ℕ
+next-of asked p = cond asked (advanced p .at) (p .at)
+
+-- the pointer that a node gives, whose register stands at an index
+abbrev pub pointer-at : Node → ℕ → List ℕ → ℕ
+pointer-at node register t = cond (eqb (node .class) 9) (node .number) (getD t register 0)
+
+abbrev pub Pointing : Node → List ℕ → ℕ → Type 0
+Pointing node t register = (node .class ≡ 9 → ⊥) → register < length t
+
+-- ---- what a kind does to the words of a table, by their indexes
+
+-- the outputs of an effect, and the destination and then the pointer written, which start at d and p
+abbrev pub Does : Power → Effect → ℕ → ℕ → List ℕ → Power → List ℕ → Type 0
+Does on e d p t r table = Leaves (outputs on e) (matrix-put p (one-word (e .pointer)) (matrix-put d (e .destination) t)) r table
+
+abbrev pub combined-at : Operation → List ℕ → ℕ → ℕ → ℕ → Power → Effect
+combined-at operation t s d n on = logic operation n (seen (run t s n) (run t d n) 0) on
+
+abbrev pub rotated-at : List ℕ → ℕ → ℕ → Power → Effect
+rotated-at t s n on = rotate n (seen (run t s n) [] 0) on
+
+abbrev pub compared-at : List ℕ → ℕ → ℕ → ℕ → Power → Effect
+compared-at t s p n on = compare n (seen (run t s n) (run t (p + 1) n) (getD t p 0)) on
+
+abbrev pub modified-at : Bool → ℕ → List ℕ → ℕ → ℕ → Power → Effect
+modified-at held at t d n on = modify held n (seen [] (run t d n) at) on
+
+abbrev pub sensed-at : Bool → ℕ → List ℕ → ℕ → ℕ → Power → Effect
+sensed-at held at t s n on = sense held n (seen (run t s n) [] at) on
+
+-- a bit of n words from d on put on or off; position 0 touches no bit
+abbrev pub put-at : List ℕ → ℕ → ℕ → ℕ → Bool → List ℕ
+put-at t d n p on = matrix-put d (cond (eqb p 0) none (some (matrix n (λ q. cond (eqb q p) on (bit (run t d n) q))))) t
+
+-- ---- blocks
+
+-- AND, OR, XOR, COMP as they are numbered
+abbrev pub operation-of : ℕ → Operation
+operation-of kind = cond (eqb kind 1) And (cond (eqb kind 2) Or (cond (eqb kind 3) Xor Comp))
+
+-- the coil area lies in the table; coils are in their area
+pub record CoilArea (z : Sizes) (t : List ℕ) : Type 0 where
+  pub few : z .coils ≤ most-coils
+  pub inside : z .coils ≤ length t
+
+pub record GoodCoils (z : Sizes) (coils : Coils) : Type 0 where
+  pub top-coil : coils .top ≤ 16 * z .coils
+  pub middle-coil : coils .middle ≤ 16 * z .coils
+  pub bottom-coil : coils .bottom ≤ 16 * z .coils
+
+-- a block of a checked network, and a table of exactly its areas
+pub record Ready (z : Sizes) (b : Block) (t : List ℕ) : Type 0 where
+  pub earlier : ℕ
+  pub runs : Runs z earlier b t
+  pub few-coils : z .coils ≤ most-coils
+
+-- the block's outputs, and its destination and pointer written
+abbrev pub Works : Sizes → Block → Power → List ℕ → Power → List ℕ → Type 0
+Works z b on t r table = Does on (effect-on z b t on) (first-word z (b .middle)) (first-word z (pointer-node (kind-of (b .kind)) b)) t r table
+
+-- ---- inputs
+
+-- both areas of contacts lie in the table
+pub record Contacts (z : Sizes) (t : List ℕ) : Type 0 where
+  pub few-coils : z .coils ≤ most-coils
+  pub few-discretes : z .discretes ≤ most-discretes
+  pub inside : z .coils + z .discretes ≤ length t
+
+pub record GoodInputs (z : Sizes) (earlier : ℕ) (inputs : Inputs) : Type 0 where
+  pub top-input : GoodInput z earlier (inputs .top)
+  pub middle-input : GoodInput z earlier (inputs .middle)
+  pub bottom-input : GoodInput z earlier (inputs .bottom)
+
+-- ---- the scan
+
+-- block k + 1 of a checked network, its table, and a list with an entry for its outputs after those of k earlier blocks
+pub record Next (z : Sizes) (b : Block) (t packs : List ℕ) (k : ℕ) : Type 0 where
+  pub runs : Runs z k b t
+  pub few-coils : z .coils ≤ most-coils
+  pub few-discretes : z .discretes ≤ most-discretes
+  pub entry : k < length packs
+
+-- the power on a block's inputs, where the outputs of the earlier blocks are packed
+abbrev pub power-of : Sizes → Block → List ℕ → List ℕ → Power
+power-of z b t packs = power-on z t (map unpacked packs) (b .inputs)
+
+-- the table that the block leaves, and its outputs in their entry
+pub record Ran (z : Sizes) (b : Block) (k : ℕ) (t packs table after : List ℕ) : Type 0 where
+  pub table-after : table ≡ block-table z b t (power-of z b t packs)
+  pub entry-after : after ≡ set packs k (packed (block-outputs z b t (power-of z b t packs)))
+
+-- an opening of these words, and a table and outputs with which they are not refused
+pub record Scannable (ws : List ℕ) (o : Opened) (t outputs : List ℕ) : Type 0 where
+  pub opens : o ≡ opened ws
+  pub taken : scan-verdict ws t outputs .number ≡ 0
+
+-- the table after the scan; the outputs of every block, and entries after the count as they were
+pub record Scanned (ws t outputs table packs : List ℕ) : Type 0 where
+  pub table-after : table ≡ scanned ws t .table
+  pub outputs-after : packs ≡ map packed (scanned ws t .outs) ++ drop (word ws 5) outputs
