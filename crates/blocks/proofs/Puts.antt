@@ -19,7 +19,7 @@ use Rattle.blocks.specs.Work.{matrix-put, coil-put}
 use Rattle.blocks.specs.Truths.{matrix-bit, coil-bit, or-stays}
 
 -- equal words have equal bits
-same-bit : (x y : List ℕ) (i j : ℕ) → i % 16 ≡ j % 16 → getD x (i / 16) 0 ≡ getD y (j / 16) 0 → bit x (suc i) ≡ bit y (suc j)
+pub same-bit : (x y : List ℕ) (i j : ℕ) → i % 16 ≡ j % 16 → getD x (i / 16) 0 ≡ getD y (j / 16) 0 → bit x (suc i) ≡ bit y (suc j)
 unfolding bit
 same-bit x y i j e w = ap₂ (λ (a b : ℕ). odd (a / 2 ^ (15 - b))) w e
 
@@ -32,8 +32,8 @@ module _ (t : List ℕ) (s : ℕ) (m : List ℕ) (h : s + length m ≤ length t)
   unfolding after
   word-at k = ap (λ (r : List ℕ). getD r k 0) (append-assoc (take s t) m (drop (s + length m) t))
 
-  below : (k : ℕ) → k < s → getD (placed t s m) k 0 ≡ getD t k 0
-  below k l =
+  pub word-below : (k : ℕ) → k < s → getD (placed t s m) k 0 ≡ getD t k 0
+  word-below k l =
       let e : length (take s t) ≡ s = length-take-le s t (omega arith) in
       word-at k ∙ List·getD-append (take s t) after 0 k (subst (λ (x : ℕ). k < x) (sym e) l) ∙ getD-take s t k 0 l
 
@@ -42,19 +42,19 @@ module _ (t : List ℕ) (s : ℕ) (m : List ℕ) (h : s + length m ≤ length t)
       let e : length (take s t) ≡ s = length-take-le s t (omega arith) in
       word-at (s + k) ∙ ap (λ (x : ℕ). getD (take s t ++ after) (x + k) 0) (sym e) ∙ getD-append-add (take s t) after k 0
 
-  inside : (k : ℕ) → k < length m → getD (placed t s m) (s + k) 0 ≡ getD m k 0
+  pub word-inside : (k : ℕ) → k < length m → getD (placed t s m) (s + k) 0 ≡ getD m k 0
   unfolding after
-  inside k l = from k ∙ List·getD-append m (drop (s + length m) t) 0 k l
+  word-inside k l = from k ∙ List·getD-append m (drop (s + length m) t) 0 k l
 
-  above : (k : ℕ) → getD (placed t s m) (s + (length m + k)) 0 ≡ getD t (s + length m + k) 0
+  pub word-above : (k : ℕ) → getD (placed t s m) (s + (length m + k)) 0 ≡ getD t (s + length m + k) 0
   unfolding after
-  above k = from (length m + k) ∙ getD-append-add m (drop (s + length m) t) k 0 ∙ getD-drop (s + length m) t k 0
+  word-above k = from (length m + k) ∙ getD-append-add m (drop (s + length m) t) k 0 ∙ getD-drop (s + length m) t k 0
 
   -- ---- and its bits
   pub bit-below : (p : ℕ) → p ≤ 16 * s → bit (placed t s m) p ≡ bit t p
   unfolding bit
   bit-below zero l = refl
-  bit-below (suc i) l = same-bit (placed t s m) t i i refl (below (i / 16) (omega arith))
+  bit-below (suc i) l = same-bit (placed t s m) t i i refl (word-below (i / 16) (omega arith))
 
   pub bit-inside : (p : ℕ) → 16 * s < p → p ≤ 16 * (s + length m) → bit (placed t s m) p ≡ bit m (p - 16 * s)
   bit-inside zero l u = absurd (omega arith)
@@ -63,7 +63,7 @@ module _ (t : List ℕ) (s : ℕ) (m : List ℕ) (h : s + length m ≤ length t)
       let at : s + j / 16 ≡ i / 16 = omega arith in
       let next : suc j ≡ suc i - 16 * s = omega arith in
       same-bit (placed t s m) m i j (omega arith)
-      (ap (λ (k : ℕ). getD (placed t s m) k 0) (sym at) ∙ inside (j / 16) (omega arith))
+      (ap (λ (k : ℕ). getD (placed t s m) k 0) (sym at) ∙ word-inside (j / 16) (omega arith))
       ∙ ap (bit m) next
 
   pub bit-above : (p : ℕ) → 16 * (s + length m) < p → bit (placed t s m) p ≡ bit t p
@@ -73,7 +73,7 @@ module _ (t : List ℕ) (s : ℕ) (m : List ℕ) (h : s + length m ≤ length t)
       let at : s + (length m + k) ≡ i / 16 = omega arith in
       let there : s + length m + k ≡ i / 16 = omega arith in
       same-bit (placed t s m) t i i refl
-      (ap (λ (k : ℕ). getD (placed t s m) k 0) (sym at) ∙ above k ∙ ap (λ (k : ℕ). getD t k 0) there)
+      (ap (λ (k : ℕ). getD (placed t s m) k 0) (sym at) ∙ word-above k ∙ ap (λ (k : ℕ). getD t k 0) there)
 
 -- the table is as long as before
 placed-length : (t : List ℕ) (s : ℕ) (m : List ℕ) → s + length m ≤ length t → length (placed t s m) ≡ length t
@@ -129,6 +129,24 @@ module _ (z : Sizes) (number : ℕ) (on : Bool) (t : List ℕ) (h : z .coils ≤
       go : (a : Bool) → length (cond a t (placed t 0 (coil-area z number on t))) ≡ length t
       go true = refl
       go false = placed-length t 0 (coil-area z number on t) room
+
+  -- the words after the coil area stay
+  pub coil-word : (k : ℕ) → z .coils ≤ k → getD (coil-put z number on t) k 0 ≡ getD t k 0
+  unfolding coil-put coil-area
+  coil-word k l = go (eqb number 0)
+    where
+      area : List ℕ
+      area = coil-area z number on t
+
+      there : 0 + (length area + (k - z .coils)) ≡ k
+      there = omega (arith, long)
+
+      go : (a : Bool) → getD (cond a t (placed t 0 area)) k 0 ≡ getD t k 0
+      go true = refl
+      go false =
+          ap (λ (x : ℕ). getD (placed t 0 area) x 0) (sym there)
+          ∙ word-above t 0 area room (k - z .coils)
+          ∙ ap (λ (x : ℕ). getD t x 0) (omega (arith, long))
 
   pub coil-bits : number ≤ 16 * z .coils → (p : ℕ) → bit (coil-put z number on t) p ≡ or-stays (coil-bit number on p) (bit t p)
   unfolding coil-put coil-area

@@ -374,6 +374,17 @@ module _ (z : Sizes) (earlier : ℕ) (b : Block) (t : List ℕ) (r : Runs z earl
       (ap₂ later (spared (first-word z (pointer-node kind b)) (one-word (e .pointer)) (has-room .pointer-room) p l u)
       (spared (first-word z (b .middle)) (e .destination) (has-room .destination-room) p l u))))
 
+-- what a block writes lies in the table
+pub destination-room : (z : Sizes) (earlier : ℕ) (b : Block) (t : List ℕ) → Runs z earlier b t → (on : Power) (m : List ℕ)
+    → effect-on z b t on .destination ≡ some m → first-word z (b .middle) + length m ≤ total z
+unfolding May e kind
+destination-room z earlier b t r on m q = has-room z earlier b t r on .destination-room m q .inside
+
+pub pointer-room : (z : Sizes) (earlier : ℕ) (b : Block) (t : List ℕ) → Runs z earlier b t → (on : Power) (m : List ℕ)
+    → one-word (effect-on z b t on .pointer) ≡ some m → first-word z (pointer-node (kind-of (b .kind)) b) + length m ≤ total z
+unfolding May e kind
+pointer-room z earlier b t r on m q = has-room z earlier b t r on .pointer-room m q .inside
+
 pub same-long : SameLong
 same-long = long-after
 

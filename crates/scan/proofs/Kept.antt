@@ -59,6 +59,18 @@ kept z t j bs (one-more k b rest g more) s h =
     runs : Runs z k b (s .table)
     runs = record { good = g; exact = h .exact }
 
+-- after any number of the blocks of a sound network
+after-blocks : (ws t : List ℕ) → Sound ws → length t ≡ total (sizes-in ws) → (k : ℕ) → k ≤ word ws 5
+    → Same (sizes-in ws) t (steps (sizes-in ws) (blocks-from ws 0 k) (record { table = t; outs = [] }) .table)
+after-blocks ws t sound e k u =
+    kept (sizes-in ws) t 0 (blocks-from ws 0 k) (each-from ws k 0 (λ i l. sound .blocks i (omega arith)))
+    (record { table = t; outs = [] })
+    (record { exact = e; inputs = λ p l u. refl })
+
+pub exact-after : (ws t : List ℕ) → Sound ws → length t ≡ total (sizes-in ws) → (k : ℕ) → k ≤ word ws 5
+    → length (steps (sizes-in ws) (blocks-from ws 0 k) (record { table = t; outs = [] }) .table) ≡ total (sizes-in ws)
+exact-after ws t sound e k u = after-blocks ws t sound e k u .exact
+
 -- ---- a verdict that refuses nothing
 then-first : (v w : Verdict) → then v w .number ≡ 0 → v .number ≡ 0
 then-first v w h = go (eqb (v .number) 0) refl h
@@ -100,19 +112,8 @@ module _ (ws t outputs : List ℕ) where
   pub accepted : scan-verdict ws t outputs .number ≡ 0 → Sound ws
   accepted h = accepts-exactly ws .0 (checks h)
 
-  -- after any number of the blocks
-  after-blocks : scan-verdict ws t outputs .number ≡ 0 → (k : ℕ) → k ≤ word ws 5 → Same (sizes-in ws) t (steps (sizes-in ws) (blocks-from ws 0 k) (record { table = t; outs = [] }) .table)
-  after-blocks h k u =
-      kept (sizes-in ws) t 0 (blocks-from ws 0 k) (each-from ws k 0 (λ i l. accepted h .blocks i (omega arith)))
-      (record { table = t; outs = [] })
-      (record { exact = exact-table h; inputs = λ p l u. refl })
-
-  pub exact-after : scan-verdict ws t outputs .number ≡ 0 → (k : ℕ) → k ≤ word ws 5
-      → length (steps (sizes-in ws) (blocks-from ws 0 k) (record { table = t; outs = [] }) .table) ≡ total (sizes-in ws)
-  exact-after h k u = after-blocks h k u .exact
-
   after-scan : scan-verdict ws t outputs .number ≡ 0 → Same (sizes-in ws) t (scanned ws t .table)
-  after-scan h = after-blocks h (word ws 5) (omega arith)
+  after-scan h = after-blocks ws t (accepted h) (exact-table h) (word ws 5) (omega arith)
 
 pub refusal-keeps : RefusalKeeps
 unfolding scan-table scan-outputs

@@ -41,7 +41,7 @@ last-block ws (suc n) j s =
     last-block ws n (suc j) (step (sizes-in ws) (block-at ws (block-start j)) s)
     ∙ ap (λ (i : ℕ). step (sizes-in ws) (block-at ws (block-start i)) (steps (sizes-in ws) (blocks-from ws (suc j) n) (step (sizes-in ws) (block-at ws (block-start j)) s))) e
 
-after-next : (ws t : List ℕ) (k : ℕ) → after ws t (suc k) ≡ step (sizes-in ws) (block-at ws (block-start k)) (after ws t k)
+pub after-next : (ws t : List ℕ) (k : ℕ) → after ws t (suc k) ≡ step (sizes-in ws) (block-at ws (block-start k)) (after ws t k)
 unfolding after
 after-next ws t k =
     let e : 0 + k ≡ k = omega arith in
@@ -49,7 +49,7 @@ after-next ws t k =
     ∙ ap (λ (i : ℕ). step (sizes-in ws) (block-at ws (block-start i)) (steps (sizes-in ws) (blocks-from ws 0 k) (record { table = t; outs = [] }))) e
 
 -- an output for each block
-outs-count : (ws t : List ℕ) (k : ℕ) → length (after ws t k .outs) ≡ k
+pub outs-count : (ws t : List ℕ) (k : ℕ) → length (after ws t k .outs) ≡ k
 unfolding after steps blocks-from step
 outs-count ws t zero = refl
 outs-count ws t (suc k) =
@@ -80,7 +80,7 @@ module _ {ws t outputs : List ℕ} {k : ℕ} {table packs : List ℕ} (h : SoFar
 
   table-exact : length table ≡ total (sizes-in ws)
   unfolding after
-  table-exact = ap length (h .table-so-far) ∙ exact-after ws t outputs (h .taken) k (h .count)
+  table-exact = ap length (h .table-so-far) ∙ exact-after ws t sound (exact-table ws t outputs (h .taken)) k (h .count)
 
   pub table-long : length table ≡ length t
   table-long = table-exact ∙ sym (exact-table ws t outputs (h .taken))

@@ -1,6 +1,7 @@
 -- What a scan is, in document 01's order: the power on a block's inputs, the blocks in order, the numbers returned; then what is
--- true of it.
+-- true of it, and demand 3.
 pub mod Input
 pub mod Scan
 pub mod Truths
+pub mod Demand3
 pub mod Inner

@@ -1,0 +1,188 @@
+-- Demand 3 at work, computed: networks that meet its premises, with what they report; and for each of its last premises a network
+-- that meets the others and breaks the conclusion. Assumes nothing.
+use mathlib.Core.Path.{_≡_, refl, ap, _∙_}
+use mathlib.Core.Bool.{Bool, xor}
+use mathlib.Core.List.{List, [], _∷_, _++_}
+use mathlib.Core.Logic.{inl, inr}
+use mathlib.Core.Option.{Option, none, some}
+use Prim.Native.Nat.{ℕ, zero, suc, _+_, _*_, _≤_, _<_}
+use native.Mathlib.Omega.{arith}
+use lib.ListN.{length}
+use Rattle.bits.specs.Bit.{bit, value, matrix as matrix-of}
+use Rattle.matrix.specs.Logic.{combined}
+use Rattle.matrix.specs.Search.{first}
+use Rattle.matrix.specs.Move.{moved}
+use Rattle.matrix.specs.Pointer.{reset, in-range, advanced}
+use Rattle.network.specs.Table.{total, reference-fault, start-of}
+use Rattle.network.specs.Rules.{rule, allows}
+use Rattle.network.specs.Record.{block-at}
+use Rattle.network.specs.Fault.{class-fault, number-fault, input-fault, faults, word-fault}
+use Rattle.network.specs.Check.{sizes-in, seek, head-faults, head-fault, fault-in, leading, opened, checked}
+use Rattle.blocks.specs.Work.{block-outputs, block-table}
+use Rattle.scan.specs.Input.{passes}
+use Rattle.scan.specs.Scan.{step, steps, blocks-from, scanned}
+use Rattle.scan.specs.Demand3.{above, round, visit, source-in, matrix-in, pointer-in, source, matrix, stepped, SameBits, reports, nothing, times, nones, SourceLeavesOut, NothingElse, Premises, Stretch, Round, all-outside, Chain}
+use Rattle.scan.proofs.Chained.{chain-is-stretch}
+use Rattle.scan.proofs.Demand3.{demand-3}
+
+-- ---- scans of one table, each of what the one before left
+unfoldable pub onward : List ℕ → List ℕ → ℕ → List ℕ
+onward ws t zero = t
+onward ws t (suc j) = scanned ws (onward ws t j) .table
+
+-- a network without coils, discrete inputs and input registers, with three holding registers
+abbrev registers : ℕ → List ℕ → List ℕ
+registers count blocks = 4 ∷ 0 ∷ 0 ∷ 0 ∷ 3 ∷ count ∷ blocks
+
+-- a block on registers with power on top, without coils
+abbrev block : ℕ → ℕ → ℕ → List ℕ
+block kind top middle = kind ∷ 1 ∷ 4 ∷ top ∷ 4 ∷ middle ∷ 1 ∷ 0 ∷ 0 ∷ 0 ∷ 0 ∷ 0 ∷ 0 ∷ 0 ∷ 0 ∷ []
+
+-- the network of the bench's example: 40001 against 40003, with pointer 40002
+abbrev pub bench : List ℕ
+bench = registers 1 (block 5 1 2)
+
+-- the premises hold, whatever the three registers are
+pub bench-chain : (a p b m : ℕ) → Chain bench 0 m (onward bench (a ∷ p ∷ b ∷ []))
+unfolding onward all-outside passes start-of opened leading fault-in head-fault head-faults seek word-fault faults class-fault number-fault input-fault reference-fault rule allows block-at
+bench-chain a p b m = record {
+  accepted = refl;
+  there = omega arith;
+  compares = refl;
+  first-size = refl;
+  goes-on = λ j. refl;
+  powered = λ j l. refl;
+  not-reset = λ j l. refl;
+  source-leaves-out = refl;
+  others-outside = refl;
+}
+
+-- so every round of it is one, from any pointer
+pub bench-round : (a p b j : ℕ) → let given = onward bench (a ∷ p ∷ b ∷ []) in
+    Round (source bench 0 (given j)) (matrix bench 0 (given j)) 1 (reports bench 0 given j (round (source bench 0 (given j)) (matrix bench 0 (given j)) 1))
+unfolding block-at
+bench-round a p b j =
+    let given : ℕ → List ℕ = onward bench (a ∷ p ∷ b ∷ []) in
+    let c : ℕ = round (source bench 0 (given j)) (matrix bench 0 (given j)) 1 in
+    demand-3 bench 0 (j + c) given (chain-is-stretch bench 0 (j + c) given (bench-chain a p b (j + c))) j (omega arith)
+
+-- the reports of its scans
+abbrev reported : List ℕ → ℕ → List (Option ℕ)
+reported t k = reports bench 0 (onward bench t) 0 k
+
+-- the example's four scans: the last bit differs, so a round is 1, 16; a last bit that agrees: 2, none; no difference: none;
+-- a pointer past the end
+pub bench-reports :
+    _≡_ {A = List (List (Option ℕ))}
+    (reported (32769 ∷ 0 ∷ 0 ∷ []) 4 ∷ reported (0 ∷ 0 ∷ 0x4000 ∷ []) 4 ∷ reported (5 ∷ 9 ∷ 5 ∷ []) 2 ∷ reported (32769 ∷ 65535 ∷ 0 ∷ []) 3 ∷ [])
+    ((some 1 ∷ some 16 ∷ some 1 ∷ some 16 ∷ [])
+    ∷ (some 2 ∷ none ∷ some 2 ∷ none ∷ [])
+    ∷ (none ∷ none ∷ [])
+    ∷ (some 1 ∷ some 16 ∷ some 1 ∷ [])
+    ∷ [])
+unfolding onward reports step steps blocks-from passes block-table block-outputs first reset in-range start-of matrix-of value bit xor block-at
+bench-reports = refl
+
+-- ---- what the last premises are for
+
+-- a statement on the numbers below 2, and below 3, from its cases
+below-two : (P : ℕ → Type 0) → P 0 → P 1 → (j : ℕ) → j < 2 → P j
+below-two P a b zero l = a
+below-two P a b (suc zero) l = b
+below-two P a b (suc (suc j)) l = absurd (omega arith)
+
+below-three : (P : ℕ → Type 0) → P 0 → P 1 → P 2 → (j : ℕ) → j < 3 → P j
+below-three P a b c zero l = a
+below-three P a b c (suc zero) l = b
+below-three P a b c (suc (suc zero)) l = c
+below-three P a b c (suc (suc (suc j))) l = absurd (omega arith)
+
+-- the source leaves out the pointer: here it is the pointer, 40002 against 40003. Nothing else changes it; but in the two scans
+-- after the first, a round by then, no scan reports no miscompare.
+abbrev own-source : List ℕ
+own-source = registers 1 (block 5 2 2)
+
+abbrev own-tables : ℕ → List ℕ
+own-tables = onward own-source (0 ∷ 0 ∷ 0 ∷ [])
+
+pub source-must-leave-out :
+    Premises Unit (NothingElse own-source 0 3 own-tables) own-source 0 3 own-tables
+    × (Round (source own-source 0 (own-tables 1)) (matrix own-source 0 (own-tables 1)) 1
+    (reports own-source 0 own-tables 1 (round (source own-source 0 (own-tables 1)) (matrix own-source 0 (own-tables 1)) 1)) → ⊥)
+unfolding onward reports step steps blocks-from passes block-table block-outputs first reset in-range start-of matrix-of value bit xor
+    opened leading fault-in head-fault head-faults seek word-fault faults class-fault number-fault input-fault reference-fault rule allows block-at
+    above nones
+source-must-leave-out = (
+  record {
+    accepted = refl;
+    there = omega arith;
+    compares = refl;
+    right-size = below-three (λ j. length (own-tables j) ≡ total (sizes-in own-source)) refl refl refl;
+    powered = λ j l. refl;
+    not-reset = λ j l. refl;
+    source-leaves-out = tt;
+    nothing-else = record {
+      source-stays = λ j l. below-two (λ j. SameBits 1 (source own-source 0 (own-tables (suc j))) (source-in own-source 0 (stepped own-source 0 (own-tables j)))) (λ p l u. refl) (λ p l u. refl) j (omega arith);
+      matrix-stays = λ j l. below-two (λ j. SameBits 1 (matrix own-source 0 (own-tables (suc j))) (matrix-in own-source 0 (stepped own-source 0 (own-tables j)))) (λ p l u. refl) (λ p l u. refl) j (omega arith);
+      pointer-stays = λ j l. below-two (λ j. pointer-in own-source 0 (visit own-source 0 (own-tables (suc j)) .table) ≡ pointer-in own-source 0 (stepped own-source 0 (own-tables j))) refl refl j (omega arith);
+    };
+  },
+  (λ r. let e : _≡_ {A = ℕ} 0 1 = r .none-reported in omega arith),
+)
+
+-- nothing else changes: here COMP turns the matrix over in every scan, so that bit 2 is reported, at which the two did not differ
+abbrev turned-over : List ℕ
+turned-over = registers 2 (block 5 1 2 ++ block 4 3 3)
+
+abbrev turned-tables : ℕ → List ℕ
+turned-tables = onward turned-over (0x8001 ∷ 0 ∷ 0 ∷ [])
+
+pub nothing-else-must-change :
+    Premises (SourceLeavesOut turned-over 0) Unit turned-over 0 2 turned-tables
+    × (Round (source turned-over 0 (turned-tables 0)) (matrix turned-over 0 (turned-tables 0)) 1
+    (reports turned-over 0 turned-tables 0 (round (source turned-over 0 (turned-tables 0)) (matrix turned-over 0 (turned-tables 0)) 1)) → ⊥)
+unfolding onward reports step steps blocks-from passes block-table block-outputs first combined reset in-range start-of matrix-of value bit xor
+    opened leading fault-in head-fault head-faults seek word-fault faults class-fault number-fault input-fault reference-fault rule allows block-at
+    above times
+nothing-else-must-change = (
+  record {
+    accepted = refl;
+    there = omega arith;
+    compares = refl;
+    right-size = below-two (λ j. length (turned-tables j) ≡ total (sizes-in turned-over)) refl refl;
+    powered = λ j l. refl;
+    not-reset = λ j l. refl;
+    source-leaves-out = inr (omega arith);
+    nothing-else = tt;
+  },
+  (λ r. let e : _≡_ {A = ℕ} 1 0 = r .no-other 2 (omega arith) (omega arith) refl in omega arith),
+)
+
+-- the block's own coils included: a network of this block alone, whose middle coil, 00005, lies in its source, coils 1 to 16. It
+-- reports 1 and then 5, and never that there is no miscompare.
+abbrev own-coil : List ℕ
+own-coil = 4 ∷ 1 ∷ 0 ∷ 0 ∷ 2 ∷ 1 ∷ 5 ∷ 1 ∷ 0 ∷ 1 ∷ 4 ∷ 1 ∷ 1 ∷ 0 ∷ 0 ∷ 0 ∷ 0 ∷ 0 ∷ 0 ∷ 5 ∷ 0 ∷ []
+
+abbrev coil-tables : ℕ → List ℕ
+coil-tables = onward own-coil (0x8000 ∷ 0 ∷ 0 ∷ [])
+
+pub own-coils-included :
+    Premises (SourceLeavesOut own-coil 0) Unit own-coil 0 2 coil-tables
+    × (Round (source own-coil 0 (coil-tables 0)) (matrix own-coil 0 (coil-tables 0)) 1
+    (reports own-coil 0 coil-tables 0 (round (source own-coil 0 (coil-tables 0)) (matrix own-coil 0 (coil-tables 0)) 1)) → ⊥)
+unfolding onward reports step steps blocks-from passes block-table block-outputs first reset in-range start-of matrix-of value bit xor
+    opened leading fault-in head-fault head-faults seek word-fault faults class-fault number-fault input-fault reference-fault rule allows block-at
+    above nones
+own-coils-included = (
+  record {
+    accepted = refl;
+    there = omega arith;
+    compares = refl;
+    right-size = below-two (λ j. length (coil-tables j) ≡ total (sizes-in own-coil)) refl refl;
+    powered = λ j l. refl;
+    not-reset = λ j l. refl;
+    source-leaves-out = inr (omega arith);
+    nothing-else = tt;
+  },
+  (λ r. let e : _≡_ {A = ℕ} 0 1 = r .none-reported in omega arith),
+)
