@@ -1,0 +1,8 @@
+-- The laws of the definitions.
+pub mod Accepted
+pub mod Determined
+pub mod Examples
+pub mod Filling
+pub mod Front
+pub mod Kept
+pub mod Tail
