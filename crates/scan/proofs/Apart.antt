@@ -4,9 +4,9 @@ use mathlib.Core.Bool.{Bool, true, false, not, cond, _&&_, _||_, false≢true}
 use mathlib.Core.List.{List, [], _∷_}
 use mathlib.Core.Logic.{_⊎_, inl, inr, ⊎-elim}
 use mathlib.Core.Option.{Option, none, some}
-use Prim.Native.Nat.{ℕ, zero, suc, _+_, _-_, _*_, _/_, _%_, _≤_, _<_}
+use Prim.Native.Nat.{ℕ, zero, suc, _+_, _-_, _*_, _/_, _≤_, _<_}
 use native.Mathlib.Omega.{arith}
-use borrow.Author.Tests.{leb-true, eqb-true, eqb-false, eq-eqb, ne-eqb}
+use borrow.Author.Tests.{leb-true, eqb-true, eqb-false}
 use lib.Dec.{eqb, leb, ltb}
 use lib.ListN.{length, getD}
 use Rattle.bits.specs.Bit.{bit, matrix}
@@ -24,9 +24,9 @@ use Rattle.blocks.specs.declared.Power.{Power}
 use Rattle.blocks.specs.Kind.{Kind, kind-of}
 use Rattle.blocks.specs.Kind.Kind.{AND, OR, XOR, COMP, CMPR, MBIT, SENS, BROT}
 use Rattle.blocks.specs.View.{View, first-word, view}
-use Rattle.blocks.specs.Effect.{Effect, effect, idle, logic, zeroed, found, compare, rotate, increased, modify, at-one, left-at-one, sense, effect-of}
+use Rattle.blocks.specs.Effect.{Effect, effect, logic, zeroed, found, compare, rotate, modify, at-one, left-at-one, sense, effect-of}
 use Rattle.blocks.specs.Work.{pointer-node, matrix-put, one-word, coil-put, coils-put, effect-on, outputs, block-table}
-use Rattle.blocks.specs.Truths.{Runs, or-stays, coil-bit}
+use Rattle.blocks.specs.Truths.{Runs, or-stays}
 use Rattle.blocks.proofs.Puts.{same-bit, word-below, word-above, coil-word, coil-bits, coil-length, put-length}
 use Rattle.blocks.proofs.Written.{destination-room, pointer-room}
 use Rattle.scan.specs.Demand3.{block-of, source-in, matrix-in, pointer-word, pointer-in, SameBits, apart, outside, coil-outside, coils-outside, writes-matrix, writes-pointer, block-outside}

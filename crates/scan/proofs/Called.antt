@@ -4,10 +4,9 @@ use mathlib.Core.Path.{_≡_, refl, sym, ap, ap₂, _∙_, subst}
 use mathlib.Core.Bool.{Bool, true, false, cond}
 use mathlib.Core.List.{List, [], _∷_, _++_, map}
 use mathlib.Core.Option.{Option, none, some}
-use Prim.Native.Nat.{ℕ, zero, suc, _+_, _≤_, _<_}
+use Prim.Native.Nat.{ℕ, zero, suc, _+_, _<_}
 use native.Mathlib.Omega.{arith}
 use borrow.Author.Tests.{eq-eqb}
-use lib.Dec.{eqb}
 use lib.ListN.{length, getD, drop, length-map, List·getD-append}
 use denote.Ref.{now}
 use Rattle.bits.specs.declared.Verdict.{Verdict}
@@ -18,7 +17,7 @@ use Rattle.network.specs.Check.{sizes-in}
 use Rattle.blocks.specs.declared.Power.{Power}
 use Rattle.scan.specs.Input.{no-power}
 use Rattle.scan.specs.Scan.{State, step, scanned, packed, unpacked, scan-verdict, scan-table, scan-outputs}
-use Rattle.scan.specs.Demand3.{round, block-of, power-at, pointer-in, source, matrix, stepped, done-by, report, reports, Round, leaves-out, left-alone, Chain, Calls, reading, readings, Demand3Calls}
+use Rattle.scan.specs.Demand3.{round, block-of, power-at, pointer-in, source, matrix, done-by, report, reports, Round, leaves-out, left-alone, Chain, Calls, reading, readings, Demand3Calls}
 use Rattle.scan.proofs.Kept.{exact-table, checks}
 use Rattle.scan.proofs.Scanning.{after, after-next, outs-count}
 use Rattle.scan.proofs.Wired.{unpacked-packed}

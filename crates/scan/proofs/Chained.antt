@@ -1,29 +1,24 @@
 -- Scans of one table, each of what the one before left: where every other block's destination, pointer and coils and the block's own
 -- coils lie outside a compare block's words, nothing but its own pointer step changes these. Assumes nothing.
-use mathlib.Core.Path.{_≡_, refl, sym, ap, ap₂, _∙_, subst}
-use mathlib.Core.Bool.{Bool, true, false, cond, _&&_, false≢true}
-use mathlib.Core.List.{List, [], _∷_}
+use mathlib.Core.Path.{_≡_, refl, sym, ap, _∙_, subst}
+use mathlib.Core.Bool.{Bool, true, false, cond}
+use mathlib.Core.List.{List}
 use mathlib.Core.Logic.{_⊎_, inl, inr, ⊎-elim}
-use mathlib.Core.Option.{Option, none, some}
-use Prim.Native.Nat.{ℕ, zero, suc, _+_, _-_, _*_, _≤_, _<_}
+use Prim.Native.Nat.{ℕ, zero, suc, _+_, _-_, _≤_, _<_}
 use native.Mathlib.Omega.{arith}
 use borrow.Author.Tests.{eqb-true, eqb-false, eq-eqb, ne-eqb}
 use lib.Dec.{eqb}
 use lib.ListN.{length}
-use Rattle.network.specs.declared.sizes.Sizes.{Sizes}
-use Rattle.network.specs.declared.block.Block.{Block}
 use Rattle.network.specs.Table.{total, start-of}
 use Rattle.network.specs.Record.{word}
 use Rattle.network.specs.Check.{sizes-in}
 use Rattle.network.specs.Sound.{Sound}
 use Rattle.network.proofs.Accepted.{accepts-exactly}
 use Rattle.network.proofs.KindFacts.{accepted-means}
-use Rattle.blocks.specs.declared.Power.{Power}
 use Rattle.blocks.specs.Truths.{Runs}
-use Rattle.blocks.specs.Work.{block-table}
 use Rattle.scan.specs.Input.{power-on}
 use Rattle.scan.specs.Scan.{State, step, steps, blocks-from, scanned}
-use Rattle.scan.specs.Demand3.{block-of, visit, power-at, pointer-word, stepped, done-by, coils-outside, block-outside, all-outside, left-alone, apart, leaves-out, Stretch, Chain, ChainIsStretch}
+use Rattle.scan.specs.Demand3.{block-of, visit, power-at, pointer-word, stepped, coils-outside, block-outside, all-outside, Chain, ChainIsStretch}
 use Rattle.scan.proofs.Kept.{exact-after}
 use Rattle.scan.proofs.Scanning.{after, after-next}
 use Rattle.scan.proofs.Apart.{Keeps, keeps-same, keeps-on, both-true, lie-apart, block-keeps, own-keeps}

@@ -1,9 +1,9 @@
 -- What a block of a checked network gives the kinds' functions: its words lie in the table, and what a kind's function does is
 -- the block's work. `top` and `middle` are the indexes of its nodes' first words. Assumes nothing.
-use mathlib.Core.Path.{_≡_, refl, sym, ap, _∙_, subst}
-use mathlib.Core.Bool.{Bool, true, cond}
-use mathlib.Core.List.{List, []}
-use mathlib.Core.Logic.{_⊎_, inl, inr, ⊎-elim}
+use mathlib.Core.Path.{_≡_, refl, sym, ap, subst}
+use mathlib.Core.Bool.{true, cond}
+use mathlib.Core.List.{List}
+use mathlib.Core.Logic.{_⊎_, ⊎-elim}
 use Prim.Native.Nat.{ℕ, zero, suc, _+_, _≤_, _<_}
 use native.Mathlib.Omega.{arith}
 use borrow.Author.Tests.{eqb-true}
@@ -15,13 +15,14 @@ use Rattle.matrix.specs.Logic.{combined}
 use Rattle.network.specs.declared.sizes.Sizes.{Sizes}
 use Rattle.network.specs.declared.block.Block.{Block}
 use Rattle.network.specs.Table.{total}
-use Rattle.network.specs.Kinds.{Lies, TwoMatrices, Compared, Pointed, KindFacts}
+use Rattle.network.specs.Kinds.{Pointed, KindFacts}
 use Rattle.network.proofs.KindFacts.{accepted-means}
 use Rattle.blocks.specs.declared.Power.{Power}
 use Rattle.blocks.specs.Kind.{kind-of}
-use Rattle.blocks.specs.View.{first-word, seen, view}
-use Rattle.blocks.specs.Effect.{Effect, logic, compare, effect-of}
+use Rattle.blocks.specs.View.{first-word, pointer-in, seen, view}
+use Rattle.blocks.specs.Effect.{logic, compare, effect-of}
 use Rattle.blocks.specs.Work.{pointer-node}
+use Rattle.scan.specs.Scans.{has-pointer, pointer-of}
 use Rattle.scan.specs.Inner.{pointer-at, Pointing, Does, combined-at, rotated-at, compared-at, modified-at, sensed-at, operation-of, Ready, Works}
 
 below-next : (k m : ℕ) → k ≤ suc m → (k ≡ suc m → ⊥) → k ≤ m
@@ -137,3 +138,28 @@ module _ (z : Sizes) (b : Block) (t : List ℕ) (r : Ready z b t) {top middle : 
     where
       below : (m : ℕ) → b .kind ≤ suc m → (b .kind ≡ suc m → ⊥) → b .kind ≤ m
       below m l n = below-next (b .kind) m l n
+
+-- ---- the block's pointer, by the number of its kind
+module _ (z : Sizes) (b : Block) (t : List ℕ) where
+  pub middle-points : Ready z b t → b .kind ≡ 5 → Pointing (b .middle) t (first-word z (b .middle))
+  middle-points r k c = let h = accepted-means z (r .earlier) b (r .runs .good) .compare k in omega (arith, h .pointer-and-matrix, r .runs .exact)
+
+  pointer-as : ℕ → ℕ
+  pointer-as k = cond (has-pointer (kind-of k)) (pointer-in z (pointer-node (kind-of k) b) t) 0
+
+  pub pointer-is : (k : ℕ) → b .kind ≡ k → cond (has-pointer (kind-of k)) (pointer-in z (pointer-node (kind-of k) b) t) 0 ≡ pointer-of z b t
+  unfolding pointer-of pointer-as
+  pointer-is k e = ap pointer-as (sym e)
+
+  pub no-pointer : (k : ℕ) → b .kind ≡ k → k ≤ 8 → (k ≡ 5 → ⊥) → (k ≡ 6 → ⊥) → (k ≡ 7 → ⊥) → 0 ≡ pointer-of z b t
+  unfolding pointer-of pointer-as kind-of
+  no-pointer zero e u f g h = ap pointer-as (sym e)
+  no-pointer (suc zero) e u f g h = ap pointer-as (sym e)
+  no-pointer (suc (suc zero)) e u f g h = ap pointer-as (sym e)
+  no-pointer (suc (suc (suc zero))) e u f g h = ap pointer-as (sym e)
+  no-pointer (suc (suc (suc (suc zero)))) e u f g h = ap pointer-as (sym e)
+  no-pointer (suc (suc (suc (suc (suc zero))))) e u f g h = absurd (f refl)
+  no-pointer (suc (suc (suc (suc (suc (suc zero)))))) e u f g h = absurd (g refl)
+  no-pointer (suc (suc (suc (suc (suc (suc (suc zero))))))) e u f g h = absurd (h refl)
+  no-pointer (suc (suc (suc (suc (suc (suc (suc (suc zero)))))))) e u f g h = ap pointer-as (sym e)
+  no-pointer (suc (suc (suc (suc (suc (suc (suc (suc (suc k))))))))) e u f g h = absurd (omega arith)

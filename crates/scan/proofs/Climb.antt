@@ -12,7 +12,7 @@ use lib.Dec.{eqb, ltb}
 use lib.ListN.{length, take, length-append, length-map}
 use lib.Seq.{take-append-seam}
 use Rattle.matrix.specs.Search.{first, differing}
-use Rattle.scan.specs.Demand3.{above, differences, spare, round, nothing, times, nones, Ascending, Round}
+use Rattle.scan.specs.Demand3.{above, spare, round, nothing, times, nones, Ascending, Round}
 
 -- ---- the first position above a start, and those after it
 data Look (f : ℕ → Bool) (i k : ℕ) : Type 0 where

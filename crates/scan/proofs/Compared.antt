@@ -4,7 +4,7 @@ use mathlib.Core.Bool.{Bool, true, false, cond}
 use mathlib.Core.List.{List, [], _∷_}
 use mathlib.Core.Logic.{⊎-elim}
 use mathlib.Core.Option.{Option, none, some}
-use Prim.Native.Nat.{ℕ, _+_, _*_, _≤_, _<_}
+use Prim.Native.Nat.{ℕ, _+_, _*_, _≤_}
 use native.Mathlib.Omega.{arith}
 use types.Run.{OneOf}
 use denote.Enum.Declared.{tagOf}
@@ -13,7 +13,7 @@ use Rattle.bits.specs.Bit.{bit}
 use Rattle.matrix.specs.declared.pointer.Pointer.{Pointer}
 use Rattle.matrix.specs.declared.search.Difference.{Difference}
 use Rattle.matrix.specs.declared.search.Difference.the-variants.{At, Nothing, Refused}
-use Rattle.matrix.specs.Run.{run, fault, longest-whole, unless, verdict}
+use Rattle.matrix.specs.Run.{run, fault, longest-whole, verdict}
 use Rattle.matrix.specs.Inner.{Accepted}
 use Rattle.matrix.specs.Search.{first-differing, reported, first-difference}
 use Rattle.matrix.specs.Pointer.{in-range}
@@ -22,7 +22,7 @@ use Rattle.matrix.proofs.Refusals.{unless-done, fault-none}
 use Rattle.matrix.proofs.Sought.{at-means-first}
 use Rattle.blocks.specs.declared.Power.{Power}
 use Rattle.blocks.specs.View.{View, seen}
-use Rattle.blocks.specs.Effect.{Effect, effect, idle, into, zeroed, found, compare}
+use Rattle.blocks.specs.Effect.{Effect, idle, into, found, compare}
 use Rattle.blocks.specs.Work.{matrix-put, one-word}
 use Rattle.scan.specs.Inner.{Does, set-to, compared-at}
 use Rattle.scan.proofs.Works.{by-effect, shows, word-put}

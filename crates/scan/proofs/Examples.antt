@@ -19,6 +19,7 @@ use Rattle.network.specs.Check.{verdict, done, seek, head-faults, head-fault, f
 use Rattle.blocks.specs.Work.{block-outputs, block-table}
 use Rattle.scan.specs.Input.{passes}
 use Rattle.scan.specs.Scan.{step, steps, blocks-from, scan-verdict, scan-table, scan-outputs}
+use Rattle.scan.specs.Scans.{pointer-of, pointers-after, scans-table, scans-outputs, scans-pointers, scans-verdict, scans-left, scans-packed, scans-marked}
 
 -- a network in a table of a word of coils, a word of discrete inputs and four holding registers
 abbrev network : ℕ → List ℕ → List ℕ
@@ -197,3 +198,35 @@ pub refused :
     ∷ [])
 unfolding scan
 refused = refl
+
+-- ---- several scans in one call
+
+abbrev Outcomes : Type 0
+Outcomes = Verdict × List ℕ × List ℕ × List ℕ
+
+abbrev runs : List ℕ → List ℕ → ℕ → List ℕ → List ℕ → Outcomes
+runs ws t times outputs pointers =
+    (scans-verdict ws t times outputs pointers, scans-left ws t times outputs pointers, scans-packed ws t times outputs pointers, scans-marked ws t times outputs pointers)
+
+-- the bench's example, four scans: outputs and pointers of each, and the entries after them stay; two scans of an AND, which has no
+-- pointer, and a SENS of a constant; no scan; lists that are too short for two scans; a refused network
+pub repeated :
+    _≡_ {A = List Outcomes}
+    (runs bench (registers 32769 0 0 0) 4 (9 ∷ 9 ∷ 9 ∷ 9 ∷ 8 ∷ []) (9 ∷ 9 ∷ 9 ∷ 9 ∷ 7 ∷ [])
+    ∷ runs (network 2 (block 1 1 1 2 top-on ++ 7 ∷ 1 ∷ 9 ∷ 2 ∷ 4 ∷ 1 ∷ top-on)) (registers 0x4000 0xffff 0 0) 2 (9 ∷ 9 ∷ 9 ∷ 9 ∷ []) (9 ∷ 9 ∷ 9 ∷ 9 ∷ [])
+    ∷ runs bench (registers 32769 0 0 0) 0 [] []
+    ∷ runs bench (registers 32769 0 0 0) 2 (9 ∷ []) (9 ∷ 9 ∷ [])
+    ∷ runs bench (registers 32769 0 0 0) 2 (9 ∷ 9 ∷ []) (9 ∷ [])
+    ∷ runs (usual 1 0 top-on) (registers 1 2 3 4) 1 (9 ∷ []) (9 ∷ [])
+    ∷ [])
+    ((done, registers 32769 16 0 0, 7 ∷ 7 ∷ 7 ∷ 7 ∷ 8 ∷ [], 1 ∷ 16 ∷ 1 ∷ 16 ∷ 7 ∷ [])
+    ∷ (done, registers 0x4000 0x4000 0 0, 1 ∷ 3 ∷ 1 ∷ 3 ∷ [], 0 ∷ 2 ∷ 0 ∷ 2 ∷ [])
+    ∷ (done, registers 32769 0 0 0, [], [])
+    ∷ (verdict 12 0, registers 32769 0 0 0, 9 ∷ [], 9 ∷ 9 ∷ [])
+    ∷ (verdict 12 0, registers 32769 0 0 0, 9 ∷ 9 ∷ [], 9 ∷ [])
+    ∷ (verdict 5 8, registers 1 2 3 4, 9 ∷ [], 9 ∷ [])
+    ∷ [])
+unfolding scans-verdict scans-left scans-packed scans-marked scans-table scans-outputs scans-pointers pointers-after pointer-of
+    step steps blocks-from passes block-table block-outputs combined first reset in-range advanced start-of matrix value bit xor
+    opened leading fault-in head-fault head-faults seek word-fault faults class-fault number-fault input-fault reference-fault rule allows block-at
+repeated = refl

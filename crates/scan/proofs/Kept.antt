@@ -24,8 +24,10 @@ use Rattle.blocks.specs.Truths.{Runs}
 use Rattle.blocks.proofs.Written.{same-long, inputs-stay as block-inputs-stay}
 use Rattle.scan.specs.Input.{power-on}
 use Rattle.scan.specs.Scan.{State, step, steps, blocks-from, scanned, packed, scan-verdict, scan-table, scan-outputs}
+use Rattle.scan.specs.Scans.{scans-table, scans-outputs, scans-pointers, scans-verdict, scans-left, scans-packed, scans-marked}
 use Rattle.scan.specs.Truths.{RefusalKeeps, SameLong, InputsStay}
 use Rattle.scan.proofs.scan.Reads as scan-reads
+use Rattle.scan.proofs.repeat.scans.Reads as scans-reads
 
 -- ---- blocks that may follow so many earlier ones
 data Each (z : Sizes) : ℕ → List Block → Type 0 where
@@ -148,3 +150,28 @@ inputs-stay ws t outputs p l u = go (eqb (scan-verdict ws t outputs .number) 0) 
     go : (a : Bool) → eqb (scan-verdict ws t outputs .number) 0 ≡ a → bit (cond a (scanned ws t .table) t) p ≡ bit t p
     go true e = after-scan ws t outputs (eqb-true (scan-verdict ws t outputs .number) 0 e) .inputs p l u
     go false e = refl
+
+-- ---- several scans that are refused keep everything, too
+module _ (ws t : List ℕ) (times : ℕ) (outputs pointers : List ℕ) (h : scans-verdict ws t times outputs pointers .number ≡ 0 → ⊥) where
+  none-left : scans-left ws t times outputs pointers ≡ t
+  unfolding scans-left
+  none-left = ap (λ (a : Bool). cond a (scans-table ws t times) t) (ne-eqb (scans-verdict ws t times outputs pointers .number) 0 h)
+
+  none-packed : scans-packed ws t times outputs pointers ≡ outputs
+  unfolding scans-packed
+  none-packed =
+      ap (λ (a : Bool). cond a (scans-outputs ws t times ++ drop (times * word ws 5) outputs) outputs) (ne-eqb (scans-verdict ws t times outputs pointers .number) 0 h)
+
+  none-marked : scans-marked ws t times outputs pointers ≡ pointers
+  unfolding scans-marked
+  none-marked =
+      ap (λ (a : Bool). cond a (scans-pointers ws t times ++ drop (times * word ws 5) pointers) pointers) (ne-eqb (scans-verdict ws t times outputs pointers .number) 0 h)
+
+pub scans-keep-table : Keeps scans-reads.Post (λ κs v. v .number ≡ 0 → ⊥) (λ κs a. now (a .1 .0)) (λ κs s. now (s .1 .0))
+scans-keep-table κs a v s p h = p .leaves-one ∙ none-left _ _ _ _ _ (λ e. h (ap (λ (x : Verdict). x .number) (p .answers) ∙ e))
+
+pub scans-keep-outputs : Keeps scans-reads.Post (λ κs v. v .number ≡ 0 → ⊥) (λ κs a. now (a .1 .1 .1 .0)) (λ κs s. now (s .1 .1 .1 .0))
+scans-keep-outputs κs a v s p h = p .leaves-other ∙ none-packed _ _ _ _ _ (λ e. h (ap (λ (x : Verdict). x .number) (p .answers) ∙ e))
+
+pub scans-keep-pointers : Keeps scans-reads.Post (λ κs v. v .number ≡ 0 → ⊥) (λ κs a. now (a .1 .1 .1 .1 .0)) (λ κs s. now (s .1 .1 .1 .1 .0))
+scans-keep-pointers κs a v s p h = p .leaves-last ∙ none-marked _ _ _ _ _ (λ e. h (ap (λ (x : Verdict). x .number) (p .answers) ∙ e))

@@ -1,21 +1,22 @@
 -- The laws of a scan's verdict: each refusal keeps the table and the outputs, and what is not refused is scanned. `o` is the
 -- network's opening. Assumes nothing.
-use mathlib.Core.Path.{_≡_, refl, sym, ap, ap₂, _∙_}
+use mathlib.Core.Path.{_≡_, refl, sym, ap, _∙_, subst}
 use mathlib.Core.Bool.{Bool, true, false, cond, _&&_}
 use mathlib.Core.List.{List, _++_, map}
-use Prim.Native.Nat.{ℕ, _≤_, _<_}
+use Prim.Native.Nat.{ℕ, _*_, _≤_, _<_}
 use native.Mathlib.Omega.{arith}
 use borrow.Author.Tests.{eq-eqb, ne-eqb, le-leb, lt-leb}
 use lib.Dec.{eqb, leb}
 use lib.ListN.{length, drop}
 use Rattle.bits.specs.declared.Verdict.{Verdict}
-use Rattle.bits.specs.Promise.{LeavesTwo}
+use Rattle.bits.specs.Promise.{LeavesTwo, LeavesThree}
 use Rattle.network.specs.declared.checker.Opened.{Opened}
 use Rattle.network.specs.Table.{total}
 use Rattle.network.specs.Record.{word}
-use Rattle.network.specs.Check.{verdict, done, then, sizes-in, opened, checked}
+use Rattle.network.specs.Check.{verdict, done, sizes-in, opened, checked}
 use Rattle.scan.specs.Scan.{scanned, packed, scan-verdict, scan-table, scan-outputs}
-use Rattle.scan.specs.Inner.{Scanned}
+use Rattle.scan.specs.Scans.{scans-table, scans-outputs, scans-pointers, scans-verdict, scans-left, scans-packed, scans-marked}
+use Rattle.scan.specs.Inner.{Scanned, Repeatable, Repeated}
 use Rattle.scan.proofs.Kept.{refusal-keeps}
 
 -- what the contract asks of an answer, a table and outputs
@@ -73,7 +74,7 @@ module _ (ws t outputs : List ℕ) where
         (le-leb (word ws 5) (length outputs) (omega (arith, s, ap (λ (x : Opened). x .count) e)))
 
   -- a scan
-  pub scans : scan-verdict ws t outputs ≡ done → {table packs : List ℕ} → Scanned ws t outputs table packs → Scans ws t outputs done table packs
+  pub scans : scan-verdict ws t outputs ≡ done → {pointers table packs marks : List ℕ} → Scanned ws t outputs pointers table packs marks → Scans ws t outputs done table packs
   unfolding scan-table scan-outputs
   scans e s = record {
     answers = sym e;
@@ -82,3 +83,85 @@ module _ (ws t outputs : List ℕ) where
         s .outputs-after
         ∙ sym (ap (λ (v : Verdict). cond (eqb (v .number) 0) (map packed (scanned ws t .outs) ++ drop (word ws 5) outputs) outputs) e);
   }
+
+-- ---- several scans
+abbrev pub Repeats : List ℕ → List ℕ → ℕ → List ℕ → List ℕ → Verdict → List ℕ → List ℕ → List ℕ → Type 0
+Repeats ws t times outputs pointers r table packs marks =
+    LeavesThree (scans-verdict ws t times outputs pointers) (scans-left ws t times outputs pointers)
+    (scans-packed ws t times outputs pointers) (scans-marked ws t times outputs pointers) r table packs marks
+
+module _ (ws t : List ℕ) (times : ℕ) (outputs pointers : List ℕ) where
+  repeat-tests : (fine long enough room : Bool) → eqb (checked ws .number) 0 ≡ fine → eqb (length t) (total (sizes-in ws)) ≡ long
+      → leb (times * word ws 5) (length outputs) ≡ enough → leb (times * word ws 5) (length pointers) ≡ room
+      → scans-verdict ws t times outputs pointers ≡ cond fine (cond (long && (enough && room)) done (verdict 12 0)) (checked ws)
+  unfolding scans-verdict
+  repeat-tests fine long enough room p q r s i = cond (p i) (cond (q i && (r i && s i)) done (verdict 12 0)) (checked ws)
+
+  -- a refusal
+  repeat-refused : (v : Verdict) → scans-verdict ws t times outputs pointers ≡ v → (v .number ≡ 0 → ⊥) → Repeats ws t times outputs pointers v t outputs pointers
+  unfolding scans-left scans-packed scans-marked
+  repeat-refused v e h =
+      let no = ne-eqb (scans-verdict ws t times outputs pointers .number) 0 (λ q. h (sym (ap (λ (x : Verdict). x .number) e) ∙ q)) in
+      record {
+        answers = sym e;
+        leaves-one = sym (ap (λ (a : Bool). cond a (scans-table ws t times) t) no);
+        leaves-other = sym (ap (λ (a : Bool). cond a (scans-outputs ws t times ++ drop (times * word ws 5) outputs) outputs) no);
+        leaves-last = sym (ap (λ (a : Bool). cond a (scans-pointers ws t times ++ drop (times * word ws 5) pointers) pointers) no);
+      }
+
+  module _ {o : Opened} (e : o ≡ opened ws) where
+    pub repeat-words : (o .verdict .number ≡ 0 → ⊥) → Repeats ws t times outputs pointers (o .verdict) t outputs pointers
+    repeat-words h =
+        repeat-refused (o .verdict)
+        (repeat-tests false _ _ _ (ne-eqb (checked ws .number) 0 (by-words ws t outputs e h)) refl refl refl ∙ sym (ap (λ (x : Opened). x .verdict) e)) h
+
+    pub repeat-table : o .verdict .number ≡ 0 → (length t ≡ total (o .sizes) → ⊥) → Repeats ws t times outputs pointers (verdict 12 0) t outputs pointers
+    unfolding opened
+    repeat-table h n =
+        repeat-refused (verdict 12 0)
+        (repeat-tests true false _ _ (eq-eqb (checked ws .number) 0 (fine ws t outputs e h)) (ne-eqb (length t) (total (sizes-in ws)) (λ q. n (q ∙ sym (ap (λ (x : Opened). total (x .sizes)) e)))) refl refl)
+        (λ q. omega arith)
+
+    entries : times * o .count ≡ times * word ws 5
+    unfolding opened
+    entries = ap (λ (x : Opened). times * x .count) e
+
+    pub repeat-outputs : o .verdict .number ≡ 0 → length t ≡ total (o .sizes) → length outputs < times * o .count → Repeats ws t times outputs pointers (verdict 12 0) t outputs pointers
+    repeat-outputs h l s =
+        repeat-refused (verdict 12 0)
+        (repeat-tests true true false _ (eq-eqb (checked ws .number) 0 (fine ws t outputs e h)) (eq-eqb (length t) (total (sizes-in ws)) (long ws t outputs e l))
+        (lt-leb (times * word ws 5) (length outputs) (subst (λ (n : ℕ). length outputs < n) entries s)) refl)
+        (λ q. omega arith)
+
+    pub repeat-pointers : o .verdict .number ≡ 0 → length t ≡ total (o .sizes) → times * o .count ≤ length outputs → length pointers < times * o .count
+        → Repeats ws t times outputs pointers (verdict 12 0) t outputs pointers
+    repeat-pointers h l u s =
+        repeat-refused (verdict 12 0)
+        (repeat-tests true true true false (eq-eqb (checked ws .number) 0 (fine ws t outputs e h)) (eq-eqb (length t) (total (sizes-in ws)) (long ws t outputs e l))
+        (le-leb (times * word ws 5) (length outputs) (subst (λ (n : ℕ). n ≤ length outputs) entries u))
+        (lt-leb (times * word ws 5) (length pointers) (subst (λ (n : ℕ). length pointers < n) entries s)))
+        (λ q. omega arith)
+
+    module _ (h : o .verdict .number ≡ 0) (l : length t ≡ total (o .sizes)) (u : times * o .count ≤ length outputs) (v : times * o .count ≤ length pointers) where
+      pub repeatable : Repeatable ws o t times outputs pointers
+      repeatable = record {
+        opens = e;
+        accepted = fine ws t outputs e h;
+        exact = long ws t outputs e l;
+        outputs-room = subst (λ (n : ℕ). n ≤ length outputs) entries u;
+        pointers-room = subst (λ (n : ℕ). n ≤ length pointers) entries v;
+      }
+
+      taken : scans-verdict ws t times outputs pointers ≡ done
+      taken =
+          repeat-tests true true true true (eq-eqb (checked ws .number) 0 (repeatable .accepted)) (eq-eqb (length t) (total (sizes-in ws)) (repeatable .exact))
+          (le-leb (times * word ws 5) (length outputs) (repeatable .outputs-room)) (le-leb (times * word ws 5) (length pointers) (repeatable .pointers-room))
+
+      pub repeats : {table packs marks : List ℕ} → Repeated ws times t outputs pointers table packs marks → Repeats ws t times outputs pointers done table packs marks
+      unfolding scans-left scans-packed scans-marked
+      repeats s = record {
+        answers = sym taken;
+        leaves-one = s .table-after ∙ sym (ap (λ (x : Verdict). cond (eqb (x .number) 0) (scans-table ws t times) t) taken);
+        leaves-other = s .outputs-after ∙ sym (ap (λ (x : Verdict). cond (eqb (x .number) 0) (scans-outputs ws t times ++ drop (times * word ws 5) outputs) outputs) taken);
+        leaves-last = s .pointers-after ∙ sym (ap (λ (x : Verdict). cond (eqb (x .number) 0) (scans-pointers ws t times ++ drop (times * word ws 5) pointers) pointers) taken);
+      }

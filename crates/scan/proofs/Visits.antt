@@ -1,11 +1,11 @@
 -- One visit of a compare block with power and no reset: what it reports is what the search finds, its pointer goes on to that, and
 -- its own pointer step leaves its matrices as they were. Assumes nothing.
 use mathlib.Core.Path.{_≡_, refl, sym, ap, ap₂, _∙_, subst}
-use mathlib.Core.Bool.{Bool, true, false, cond, xor}
+use mathlib.Core.Bool.{Bool, cond, xor}
 use mathlib.Core.List.{List, [], _∷_, _++_}
 use mathlib.Core.Logic.{_⊎_, inl, inr, ⊎-elim}
 use mathlib.Core.Option.{Option, none, some}
-use Prim.Native.Nat.{ℕ, zero, suc, _+_, _-_, _*_, _/_, _%_, _≤_, _<_}
+use Prim.Native.Nat.{ℕ, zero, suc, _+_, _-_, _*_, _/_, _≤_, _<_}
 use native.Mathlib.Omega.{arith}
 use lib.Dec.{eqb, ltb}
 use lib.ListN.{length, getD, List·getD-append}
@@ -13,7 +13,7 @@ use lib.Seq.{getD-append-add}
 use Rattle.bits.specs.Bit.{bit}
 use Rattle.matrix.specs.declared.pointer.Pointer.{Pointer}
 use Rattle.matrix.specs.Run.{run, placed}
-use Rattle.matrix.specs.Search.{first, differing, first-differing}
+use Rattle.matrix.specs.Search.{differing, first-differing}
 use Rattle.matrix.specs.Pointer.{reset, in-range}
 use Rattle.matrix.proofs.Pointers.{size-right, steps as sized-steps}
 use Rattle.matrix.proofs.Runs.{run-at}
@@ -33,7 +33,7 @@ use Rattle.blocks.specs.Effect.{Effect, idle, into, zeroed, found, compare, eff
 use Rattle.blocks.specs.Work.{pointer-node, matrix-put, one-word, coil-put, coils-put, effect-on, outputs, written, block-outputs, block-table}
 use Rattle.blocks.proofs.Puts.{same-bit, word-below, word-inside, word-above, coil-word, coil-length, put-length}
 use Rattle.scan.specs.Input.{no-power, power-on}
-use Rattle.scan.specs.Scan.{State, step, steps, blocks-from, scanned}
+use Rattle.scan.specs.Scan.{State, step, scanned}
 use Rattle.scan.specs.Demand3.{block-of, visit, power-at, source-in, matrix-in, pointer-word, pointer-in, source, matrix, stepped, done-by, report, SameBits, Stretch}
 use Rattle.scan.proofs.Kept.{exact-after}
 use Rattle.scan.proofs.Scanning.{after, after-next, outs-count}

@@ -1,27 +1,26 @@
 -- Demand 3 at work, computed: networks that meet its premises, with what they report; and for each of its last premises a network
 -- that meets the others and breaks the conclusion. Assumes nothing.
-use mathlib.Core.Path.{_≡_, refl, ap, _∙_}
-use mathlib.Core.Bool.{Bool, xor}
+use mathlib.Core.Path.{_≡_, refl}
+use mathlib.Core.Bool.{xor}
 use mathlib.Core.List.{List, [], _∷_, _++_}
-use mathlib.Core.Logic.{inl, inr}
+use mathlib.Core.Logic.{inr}
 use mathlib.Core.Option.{Option, none, some}
-use Prim.Native.Nat.{ℕ, zero, suc, _+_, _*_, _≤_, _<_}
+use Prim.Native.Nat.{ℕ, zero, suc, _+_, _<_}
 use native.Mathlib.Omega.{arith}
 use lib.ListN.{length}
 use Rattle.bits.specs.Bit.{bit, value, matrix as matrix-of}
 use Rattle.matrix.specs.Logic.{combined}
 use Rattle.matrix.specs.Search.{first}
-use Rattle.matrix.specs.Move.{moved}
-use Rattle.matrix.specs.Pointer.{reset, in-range, advanced}
+use Rattle.matrix.specs.Pointer.{reset, in-range}
 use Rattle.network.specs.Table.{total, reference-fault, start-of}
 use Rattle.network.specs.Rules.{rule, allows}
 use Rattle.network.specs.Record.{block-at}
 use Rattle.network.specs.Fault.{class-fault, number-fault, input-fault, faults, word-fault}
-use Rattle.network.specs.Check.{sizes-in, seek, head-faults, head-fault, fault-in, leading, opened, checked}
+use Rattle.network.specs.Check.{sizes-in, seek, head-faults, head-fault, fault-in, leading, opened}
 use Rattle.blocks.specs.Work.{block-outputs, block-table}
 use Rattle.scan.specs.Input.{passes}
 use Rattle.scan.specs.Scan.{step, steps, blocks-from, scanned}
-use Rattle.scan.specs.Demand3.{above, round, visit, source-in, matrix-in, pointer-in, source, matrix, stepped, SameBits, reports, nothing, times, nones, SourceLeavesOut, NothingElse, Premises, Stretch, Round, all-outside, Chain}
+use Rattle.scan.specs.Demand3.{above, round, visit, source-in, matrix-in, pointer-in, source, matrix, stepped, SameBits, reports, nothing, times, nones, SourceLeavesOut, NothingElse, Premises, Round, all-outside, Chain}
 use Rattle.scan.proofs.Chained.{chain-is-stretch}
 use Rattle.scan.proofs.Demand3.{demand-3}
 

@@ -1,22 +1,22 @@
 -- The laws that join the calls of `matrix` to the kinds' rules: the runs of a checked block are not refused, so that what a call
 -- leaves is what the rule writes. Assumes nothing.
-use mathlib.Core.Path.{_≡_, refl, sym, ap, ap₂, _∙_, subst}
-use mathlib.Core.Bool.{Bool, true, false, not, cond, _&&_, _||_, false≢true}
+use mathlib.Core.Path.{_≡_, refl, sym, ap, _∙_, subst}
+use mathlib.Core.Bool.{Bool, true, false, not, cond, false≢true}
 use mathlib.Core.List.{List, [], _∷_}
-use mathlib.Core.Option.{Option, none, some}
+use mathlib.Core.Option.{none, some}
 use Prim.Native.Nat.{ℕ, zero, suc, _+_, _*_, _≤_, _<_}
 use native.Mathlib.Omega.{arith}
-use borrow.Author.Tests.{eq-eqb, ne-eqb, lt-ltb, le-ltb}
-use lib.Dec.{eqb, ltb}
-use lib.ListN.{length, getD, set}
+use borrow.Author.Tests.{eq-eqb, ne-eqb}
+use lib.Dec.{eqb}
+use lib.ListN.{length, set}
 use Rattle.bits.specs.declared.Verdict.{Verdict}
 use Rattle.bits.specs.Bit.{bit, matrix}
 use Rattle.bits.specs.Promise.{Leaves}
 use Rattle.matrix.specs.declared.logic.Operation.{Operation}
 use Rattle.matrix.specs.declared.answer.Answer.{Answer}
 use Rattle.matrix.specs.declared.answer.Answer.the-variants.{Bit, Refused}
-use Rattle.matrix.specs.Run.{run, placed, fault, fault-at, longest, longest-whole, unless, verdict}
-use Rattle.matrix.specs.Inner.{Accepted, Located}
+use Rattle.matrix.specs.Run.{run, placed, fault, fault-at, longest, longest-whole, verdict}
+use Rattle.matrix.specs.Inner.{Accepted}
 use Rattle.matrix.specs.Logic.{combined, combine-verdict, combine-table}
 use Rattle.matrix.specs.Move.{leaving, moved, move-answer, move-table}
 use Rattle.matrix.specs.Single.{read-answer, put-table}
@@ -25,7 +25,6 @@ use Rattle.matrix.proofs.Runs.{run-length}
 use Rattle.matrix.proofs.Singles.{placed-set}
 use Rattle.network.specs.declared.sizes.Sizes.{Sizes}
 use Rattle.blocks.specs.declared.Power.{Power}
-use Rattle.blocks.specs.View.{seen}
 use Rattle.blocks.specs.Effect.{Effect, effect, idle, logic, rotate}
 use Rattle.blocks.specs.Work.{matrix-put, one-word, coil-put, outputs}
 use Rattle.scan.specs.Inner.{Does, combined-at, rotated-at, put-at, CoilArea}

@@ -20,9 +20,9 @@ use Rattle.network.specs.declared.block.Inputs.{Inputs}
 use Rattle.network.specs.declared.block.Coils.{Coils}
 use Rattle.network.specs.declared.block.Block.{Block}
 use Rattle.network.specs.declared.checker.Opened.{Opened}
-use Rattle.network.specs.Table.{most-coils, most-discretes}
+use Rattle.network.specs.Table.{most-coils, most-discretes, total}
 use Rattle.network.specs.Record.{word}
-use Rattle.network.specs.Check.{opened}
+use Rattle.network.specs.Check.{sizes-in, opened, checked}
 use Rattle.network.specs.Sound.{GoodInput}
 use Rattle.blocks.specs.declared.Power.{Power}
 use Rattle.blocks.specs.Kind.{kind-of}
@@ -32,6 +32,7 @@ use Rattle.blocks.specs.Work.{pointer-node, matrix-put, one-word, effect-on, ou
 use Rattle.blocks.specs.Truths.{Runs}
 use Rattle.scan.specs.Input.{power-on}
 use Rattle.scan.specs.Scan.{scanned, packed, unpacked, scan-verdict}
+use Rattle.scan.specs.Scans.{pointer-of, scan-pointers, scans-table, scans-outputs, scans-pointers}
 
 -- ---- pointers
 
@@ -127,17 +128,36 @@ pub record Next (z : Sizes) (b : Block) (t packs : List ℕ) (k : ℕ) : Type 0 
 abbrev pub power-of : Sizes → Block → List ℕ → List ℕ → Power
 power-of z b t packs = power-on z t (map unpacked packs) (b .inputs)
 
--- the table that the block leaves, and its outputs in their entry
-pub record Ran (z : Sizes) (b : Block) (k : ℕ) (t packs table after : List ℕ) : Type 0 where
+-- the table that the block leaves, and its outputs and its pointer in their entries
+pub record Ran (z : Sizes) (b : Block) (k : ℕ) (t packs marks table after marked : List ℕ) : Type 0 where
   pub table-after : table ≡ block-table z b t (power-of z b t packs)
   pub entry-after : after ≡ set packs k (packed (block-outputs z b t (power-of z b t packs)))
+  pub mark-after : marked ≡ set marks k (pointer-of z b (block-table z b t (power-of z b t packs)))
 
 -- an opening of these words, and a table and outputs with which they are not refused
 pub record Scannable (ws : List ℕ) (o : Opened) (t outputs : List ℕ) : Type 0 where
   pub opens : o ≡ opened ws
   pub taken : scan-verdict ws t outputs .number ≡ 0
 
--- the table after the scan; the outputs of every block, and entries after the count as they were
-pub record Scanned (ws t outputs table packs : List ℕ) : Type 0 where
+-- the table after the scan; the outputs of every block, and entries after the count as they were; and so its pointers, where a list
+-- has room for them
+pub record Scanned (ws t outputs pointers table packs marks : List ℕ) : Type 0 where
   pub table-after : table ≡ scanned ws t .table
   pub outputs-after : packs ≡ map packed (scanned ws t .outs) ++ drop (word ws 5) outputs
+  pub pointers-after : word ws 5 ≤ length pointers → marks ≡ scan-pointers ws t ++ drop (word ws 5) pointers
+
+-- ---- several scans
+
+-- an opening of these words, and a table and lists with which so many scans are not refused
+pub record Repeatable (ws : List ℕ) (o : Opened) (t : List ℕ) (times : ℕ) (outputs pointers : List ℕ) : Type 0 where
+  pub opens : o ≡ opened ws
+  pub accepted : checked ws .number ≡ 0
+  pub exact : length t ≡ total (sizes-in ws)
+  pub outputs-room : times * word ws 5 ≤ length outputs
+  pub pointers-room : times * word ws 5 ≤ length pointers
+
+-- the table after them, and the lists with their outputs and pointers in front
+pub record Repeated (ws : List ℕ) (times : ℕ) (t outputs pointers table packs marks : List ℕ) : Type 0 where
+  pub table-after : table ≡ scans-table ws t times
+  pub outputs-after : packs ≡ scans-outputs ws t times ++ drop (times * word ws 5) outputs
+  pub pointers-after : marks ≡ scans-pointers ws t times ++ drop (times * word ws 5) pointers

@@ -12,7 +12,10 @@ use network::Node;
 use network::Sizes;
 ghost use mathlib.Core.Path.{_≡_};
 ghost use Rattle.bits.specs.Promise.{Leaves};
+ghost use lib.ListN.{set};
+ghost use Rattle.blocks.specs.View.{first-word, pointer-in};
 ghost use Rattle.blocks.specs.Work.{block-outputs, block-table};
+ghost use Rattle.scan.specs.Scans.{pointer-of};
 ghost use Rattle.scan.specs.Inner.{Pointing, pointer-at, operation-of, Ready, Works};
 
 // The pointer that a node gives: a constant's value, or the content of its register.
@@ -73,4 +76,36 @@ pub(crate) fn run(table: &mut [u16], sizes: Sizes, block: Block, on: Power) -> P
     let out = work(table, sizes, block, on);
     put_coils(table, sizes, block.coils, out);
     out
+}
+
+// The pointer that a node gives, wherever it stands.
+fn pointer_at(table: &[u16], sizes: Sizes, node: Node) -> u16
+    requires { ⌜ Pointing node (now table) (first-word sizes node) ⌝ }
+    ensures { λ r. ⌜ r ≡ pointer-in sizes node (now (table .entry)) ⌝ }
+{
+    pointer_in(table, node, network::start(sizes, node.class, node.number))
+}
+
+// The block's pointer as the table has it; 0 for a kind without one.
+fn pointer_of(table: &[u16], sizes: Sizes, block: Block) -> u16
+    requires { ⌜ Ready sizes block (now table) ⌝ }
+    ensures { λ r. ⌜ r ≡ pointer-of sizes block (now (table .entry)) ⌝ }
+{
+    let kind = block.kind;
+    match kind {
+        5 => pointer_at(table, sizes, block.middle),
+        6 => pointer_at(table, sizes, block.top),
+        7 => pointer_at(table, sizes, block.top),
+        _ => 0,
+    }
+}
+
+// The block's pointer into entry k of a list, where the list has it.
+pub(crate) fn mark(table: &[u16], pointers: &mut [u16], sizes: Sizes, block: Block, k: usize)
+    requires { ⌜ Ready sizes block (now table) ⌝ }
+    ensures { λ _. ⌜ now (pointers .exit) ≡ set (now (pointers .entry)) k (pointer-of sizes block (now (table .entry))) ⌝ }
+{
+    if k < pointers.len() {
+        pointers[k] = pointer_of(table, sizes, block);
+    }
 }

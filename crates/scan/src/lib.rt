@@ -9,9 +9,11 @@ mod coil;
 mod compare;
 mod input;
 mod pointer;
+mod repeat;
 mod single;
 mod whole;
 
+use crate::block::mark;
 use crate::block::run;
 use crate::input::power_on;
 use bits::Verdict;
@@ -20,6 +22,7 @@ use network::Block;
 use network::Opened;
 use network::Read;
 use network::Sizes;
+pub use repeat::scans;
 ghost use mathlib.Core.Path.{_≡_};
 ghost use Rattle.bits.specs.Promise.{LeavesTwo};
 ghost use Rattle.scan.specs.Scan.{packed, scan-verdict, scan-table, scan-outputs};
@@ -32,19 +35,34 @@ fn packed(out: Power) -> u16
     out.top as u16 + 2 * out.middle as u16 + 4 * out.bottom as u16
 }
 
-// One block: the power on its inputs, its work, its outputs into entry k of the list.
-fn run_one(table: &mut [u16], outputs: &mut [u16], sizes: Sizes, block: Block, k: usize)
+// One block: the power on its inputs, its work, its outputs and its pointer into entry k of the lists.
+fn run_one(
+    table: &mut [u16],
+    outputs: &mut [u16],
+    pointers: &mut [u16],
+    sizes: Sizes,
+    block: Block,
+    k: usize,
+)
     requires { ⌜ Next sizes block (now table) (now outputs) k ⌝ }
-    ensures { λ _. ⌜ Ran sizes block k (now (table .entry)) (now (outputs .entry)) (now (table .exit)) (now (outputs .exit)) ⌝ }
+    ensures { λ _. ⌜
+        Ran sizes block k
+        (now (table .entry)) (now (outputs .entry)) (now (pointers .entry))
+        (now (table .exit)) (now (outputs .exit)) (now (pointers .exit)) ⌝ }
 {
     let on = power_on(table, outputs, sizes, block.inputs);
     outputs[k] = packed(run(table, sizes, block, on));
+    mark(table, pointers, sizes, block, k);
 }
 
-// Every block of an opened network in order; their outputs go to the front of the list.
-fn run_all(words: &[u16], o: Opened, table: &mut [u16], outputs: &mut [u16])
+// Every block of an opened network in order; their outputs go to the front of a list, and so do their pointers where a list is lent
+// for them.
+fn run_all(words: &[u16], o: Opened, table: &mut [u16], outputs: &mut [u16], pointers: &mut [u16])
     requires { ⌜ Scannable (now words) o (now table) (now outputs) ⌝ }
-    ensures { λ _. ⌜ Scanned (now (words .entry)) (now (table .entry)) (now (outputs .entry)) (now (table .exit)) (now (outputs .exit)) ⌝ }
+    ensures { λ _. ⌜
+        Scanned (now (words .entry))
+        (now (table .entry)) (now (outputs .entry)) (now (pointers .entry))
+        (now (table .exit)) (now (outputs .exit)) (now (pointers .exit)) ⌝ }
 {
     let sizes = o.sizes;
     let count = o.count as usize;
@@ -53,7 +71,7 @@ fn run_all(words: &[u16], o: Opened, table: &mut [u16], outputs: &mut [u16])
         let Read::Record(block) = network::record_at(words, o, k + 1) else {
             return;
         };
-        run_one(table, outputs, sizes, block, k);
+        run_one(table, outputs, pointers, sizes, block, k);
         k += 1;
     }
 }
@@ -83,7 +101,8 @@ pub fn scan(words: &[u16], table: &mut [u16], outputs: &mut [u16]) -> Verdict
     if outputs.len() < o.count as usize {
         return short;
     }
-    run_all(words, o, table, outputs);
+    let mut no_pointers = [0u16; 0];
+    run_all(words, o, table, outputs, &mut no_pointers);
     Verdict {
         number: 0,
         place: 0,

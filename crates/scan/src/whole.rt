@@ -2,7 +2,6 @@
 use blocks::Power;
 use matrix::Answer;
 use matrix::Operation;
-ghost use mathlib.Core.Path.{_≡_};
 ghost use lib.ListN.{length};
 ghost use Rattle.matrix.specs.Run.{longest-whole};
 ghost use Rattle.matrix.specs.Inner.{Accepted};

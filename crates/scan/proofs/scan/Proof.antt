@@ -1,9 +1,7 @@
 -- `scan::scan` meets its contract: the refusals in their order, then every block. Assumes nothing.
 use mathlib.Core.Path.{_≡_, sym, ap, _∙_}
-use native.Mathlib.Omega.{arith}
 use borrow.Author.Needs.{needs}
 use denote.Ref.{now}
-use lib.ListN.{length}
 use Rattle.bits.specs.declared.Verdict.{Verdict}
 use Rattle.network.specs.Check.{done}
 use Rattle.scan.specs.Scan.{scan-verdict}
@@ -48,11 +46,11 @@ returns-3 c =
     let o = c .before .before .before .before .before .before .before .opening .ensures in
     refused-outputs (now (x .words)) (now (x .table)) (now (x .outputs)) o (c .before .before .before .before .if1 .left) (c .before .before .if2 .left ∙ c .before .before .before .total .ensures) (c .if3 .taken)
 
+slice-aggregate-run-all : tie.Need-slice-aggregate-run-all
+slice-aggregate-run-all c = search needs
+
 run-all-requires : tie.Need-run-all-requires
-run-all-requires c κs = record {
-  opens = c .before .before .before .before .before .before .before .before .before .opening .ensures;
-  taken = ap (λ (v : Verdict). v .number) (taken (c .before .before));
-}
+run-all-requires c κs = record { opens = c .before .before .before .before .before .before .before .before .before .before .opening .ensures; taken = ap (λ (v : Verdict). v .number) (taken (c .before .before .before)) }
 
 same-length : tie.Need-same-length
 same-length c = search needs
@@ -62,8 +60,8 @@ same-length-2 c = search needs
 
 returns-4 : tie.Need-returns-4
 returns-4 c =
-    let x = c .before .before .before .before .before .before .before .before .before .before .before .before .before .before .before .before .before .before .args in
-    scans (now (x .words)) (now (x .table)) (now (x .outputs)) (taken (c .before .before .before .before .before .before .before)) (c .before .before .before .before .run-all .ensures)
+    let x = c .before .before .before .before .before .before .before .before .before .before .before .before .before .before .before .before .before .before .before .before .args in
+    scans (now (x .words)) (now (x .table)) (now (x .outputs)) (taken (c .before .before .before .before .before .before .before .before .before)) (c .before .before .before .before .before .run-all .ensures)
 
 pub scan-spec : {M : Type 1} → statement M
 scan-spec =
@@ -76,6 +74,7 @@ scan-spec =
     returns-2
     cast-if3
     returns-3
+    slice-aggregate-run-all
     run-all-requires
     same-length
     same-length-2

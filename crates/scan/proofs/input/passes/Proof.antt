@@ -2,13 +2,11 @@
 use mathlib.Core.Path.{_≡_, sym, ap, _∙_}
 use mathlib.Core.Bool.{not}
 use mathlib.Core.List.{map}
-use Prim.Native.Nat.{_≤_}
 use native.Mathlib.Omega.{arith}
 use borrow.Author.Needs.{needs}
 use denote.Ref.{now}
 use lib.ListN.{length}
 use Rattle.blocks.specs.declared.Power.{Power}
-use Rattle.scan.specs.Input.{passes}
 use Rattle.scan.specs.Scan.{unpacked}
 use Rattle.scan.proofs.Wired.{coil-lies, discrete-lies, by-code, code-is, code-eight, block-unpacked}
 use Rattle.scan.proofs.input.passes.Statement.{statement}

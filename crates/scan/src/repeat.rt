@@ -1,0 +1,83 @@
+// Several scans, one after the other.
+use crate::run_all;
+use bits::Verdict;
+use network::Opened;
+ghost use Rattle.bits.specs.Promise.{LeavesThree};
+ghost use Rattle.scan.specs.Scans.{scans-verdict, scans-left, scans-packed, scans-marked};
+ghost use Rattle.scan.specs.Inner.{Repeatable, Repeated};
+
+// So many scans of an opened network, one after the other.
+fn run_times(
+    words: &[u16],
+    o: Opened,
+    table: &mut [u16],
+    times: u16,
+    outputs: &mut [u16],
+    pointers: &mut [u16],
+)
+    requires { ⌜ Repeatable (now words) o (now table) times (now outputs) (now pointers) ⌝ }
+    ensures { λ _. ⌜
+        Repeated (now (words .entry)) times
+        (now (table .entry)) (now (outputs .entry)) (now (pointers .entry))
+        (now (table .exit)) (now (outputs .exit)) (now (pointers .exit)) ⌝ }
+{
+    let count = o.count as usize;
+    let scans = times as usize;
+    let mut j = 0;
+    while j < scans {
+        let at = j * count;
+        let next = at + count;
+        run_all(
+            words,
+            o,
+            table,
+            &mut outputs[at..next],
+            &mut pointers[at..next],
+        );
+        j += 1;
+    }
+}
+
+// Several scans of the network that the words spell, one after the other on its table, which is checked once for all of them. Of
+// each scan in turn, every block's outputs come back as `scan` gives them, and its pointer when it is done (0 for a kind without
+// one); entries after them stay.
+pub fn scans(
+    words: &[u16],
+    table: &mut [u16],
+    times: u16,
+    outputs: &mut [u16],
+    pointers: &mut [u16],
+) -> Verdict
+    ensures { λ r. ⌜
+        LeavesThree
+        (scans-verdict (now (words .entry)) (now (table .entry)) times (now (outputs .entry)) (now (pointers .entry)))
+        (scans-left (now (words .entry)) (now (table .entry)) times (now (outputs .entry)) (now (pointers .entry)))
+        (scans-packed (now (words .entry)) (now (table .entry)) times (now (outputs .entry)) (now (pointers .entry)))
+        (scans-marked (now (words .entry)) (now (table .entry)) times (now (outputs .entry)) (now (pointers .entry)))
+        r (now (table .exit)) (now (outputs .exit)) (now (pointers .exit)) ⌝ }
+{
+    let o = network::opening(words);
+    let verdict = o.verdict;
+    if verdict.number != 0 {
+        return verdict;
+    }
+    let short = Verdict {
+        number: 12,
+        place: 0,
+    };
+    if table.len() != network::total(o.sizes) as usize {
+        return short;
+    }
+    let entries = times as usize * o.count as usize;
+    if outputs.len() < entries {
+        return short;
+    }
+    if pointers.len() < entries {
+        return short;
+    }
+    run_times(words, o, table, times, outputs, pointers);
+    Verdict {
+        number: 0,
+        place: 0,
+    }
+}
