@@ -5,4 +5,8 @@ pub mod Examples
 pub mod Filling
 pub mod Front
 pub mod Kept
+pub mod Outcomes
+pub mod Printing
+pub mod Putting
+pub mod Running
 pub mod Tail

@@ -1,0 +1,156 @@
+-- `benchfile::lines::put_scan` meets its contract. The loop keeps that the lines of the first k blocks are put. Assumes nothing.
+use borrow.Author.Needs.{needs}
+use native.Mathlib.Omega.{arith}
+use denote.Ref.{now}
+use mathlib.Core.Path.{_≡_, sym, ap, _∙_}
+use Prim.Native.Nat.{_+_, _-_, _*_, _≤_, _<_}
+use lib.ListN.{length}
+use Rattle.network.specs.declared.block.Block.{Block}
+use Rattle.network.specs.declared.checker.Opened.{Opened}
+use Rattle.network.specs.Record.{word, block-at}
+use Rattle.network.specs.Check.{opened, checked, block-start}
+use Rattle.scan.proofs.Scanning.{is-next, is-read}
+use Rattle.benchfile.specs.Inner.{Put, entry-lines}
+use Rattle.benchfile.proofs.Putting.{put-none, put-long, put-as}
+use Rattle.benchfile.proofs.Printing.{line-more}
+use Rattle.benchfile.proofs.lines.put_scan.Statement.{statement}
+use Rattle.benchfile.proofs.lines.put_scan.Tie as tie
+
+abbrev Inv-loop : tie.InvT-loop
+Inv-loop text₀ at words o scan packs marks first count next₀ k₀ text next k =
+    (o ≡ opened words) × (checked words .number ≡ 0) × (count ≡ word words 5) × (first + word words 5 ≤ length packs) × (first + word words 5 ≤ length marks)
+    × (at + 32 * word words 5 ≤ length text₀) × (k ≤ word words 5) × Put (32 * k) text₀ at (entry-lines words packs marks scan first k) next text
+
+abbrev μ-loop : tie.MeasureT-loop
+μ-loop text₀ at words o scan packs marks first count next₀ k₀ text next k = count - k
+
+-- the loop goes on while there are blocks
+below : (c : tie.In-loop Inv-loop μ-loop) → c .before .loop .k < word (now (c .before .before .before .before .before .before .args .words)) 5
+below c = omega (arith, c .before .loop .inv .2)
+
+-- the record that was read is the next block's
+next-kind : (c : tie.After-block Inv-loop μ-loop) → c .block .given .0 .0 .kind ≡ block-at (now (c .before .before .before .before .before .before .before .before .before .args .words)) (block-start (c .before .before .before .before .loop .k)) .kind
+next-kind c =
+    let v = c .before .before .before .before .loop .inv in
+    let x = c .before .before .before .before .before .before .before .before .before .args in
+    ap (λ (b : Block). b .kind)
+    (is-next (now (x .words)) (x .o) (c .before .before .before .before .loop .k) (v .0) (v .1) (below (c .before .before .before)) (sym (c .before .before .record-at .ensures) ∙ c .block .given .1))
+
+loop-holds : tie.Need-loop-holds Inv-loop μ-loop
+unfolding opened entry-lines
+loop-holds c =
+    let b = c .before .before .before .before in
+    let p = b .pre in (
+      p .opens,
+      p .accepted,
+      ap (λ (o : Opened). o .count) (p .opens),
+      p .packs-room,
+      p .marks-room,
+      p .text-room,
+      omega arith,
+      put-none 0 (now (b .args .text)) (b .args .at) (omega (arith, p .text-room)),
+    )
+
+cast-i : tie.Need-cast-i Inv-loop μ-loop
+cast-i c = omega arith
+
+add-record-at : tie.Need-add-record-at Inv-loop μ-loop
+add-record-at c = omega arith
+
+record-at-requires : tie.Need-record-at-requires Inv-loop μ-loop
+record-at-requires c κs = search needs
+
+enum-known-block : tie.Need-enum-known-block Inv-loop μ-loop
+enum-known-block c = search needs
+
+enum-told : tie.Need-enum-told Inv-loop μ-loop
+enum-told c = search needs
+
+same-length : tie.Need-same-length Inv-loop μ-loop
+same-length c = put-long (c .before .before .before .before .loop .inv .7)
+
+returns : tie.Need-returns Inv-loop μ-loop
+returns c =
+    let v = c .before .before .before .before .loop .inv in
+    let x = c .before .before .before .before .before .before .before .before .before .args in
+    absurd (is-read (now (x .words)) (x .o) (c .before .before .before .before .loop .k) (v .0) (v .1) (below (c .before .before .before)) (sym (c .before .before .record-at .ensures) ∙ c .enum-told .given .1))
+
+add-entry : tie.Need-add-entry Inv-loop μ-loop
+add-entry c = omega (arith, below (c .before .before .before .before), c .before .before .before .before .before .loop .inv .3, c .before .before .before .before .before .before .before .before .before .before)
+
+add-put-line : tie.Need-add-put-line Inv-loop μ-loop
+add-put-line c = omega (arith, below (c .before .before .before .before .before), c .before .before .before .before .before .before .before .before .before .shared-slice-known .given 5)
+
+mul-put-line : tie.Need-mul-put-line Inv-loop μ-loop
+mul-put-line c = omega (arith, below (c .before .before .before .before .before), c .before .before .before .before .before .before .loop .inv .3, c .before .before .before .before .before .before .before .before .before .before .before)
+
+shared-slice-read-put-line : tie.Need-shared-slice-read-put-line Inv-loop μ-loop
+shared-slice-read-put-line c = omega (arith, below (c .before .before .before .before .before .before), c .before .before .before .before .before .before .before .loop .inv .3)
+
+mul-put-line-2 : tie.Need-mul-put-line-2 Inv-loop μ-loop
+mul-put-line-2 c = omega (arith, below (c .before .before .before .before .before .before), c .before .before .before .before .before .before .before .loop .inv .4, c .before .before .before .before .before .before .before .before .before .before .before .before)
+
+shared-slice-read-put-line-2 : tie.Need-shared-slice-read-put-line-2 Inv-loop μ-loop
+shared-slice-read-put-line-2 c = omega (arith, below (c .before .before .before .before .before .before .before), c .before .before .before .before .before .before .before .before .loop .inv .4)
+
+put-line-requires : tie.Need-put-line-requires Inv-loop μ-loop
+put-line-requires c κs =
+    let v = c .before .before .before .before .before .before .before .before .loop .inv in
+    omega (arith, below (c .before .before .before .before .before .before .before), v .5, v .7 .few, v .7 .reaches, put-long (v .7))
+
+add-k : tie.Need-add-k Inv-loop μ-loop
+add-k c = omega (arith, below (c .before .before .before .before .before .before .before .before .before .before), c .before .before .before .before .before .before .before .before .before .before .before .before .before .before .shared-slice-known .given 5)
+
+loop-less : tie.Need-loop-less Inv-loop μ-loop
+loop-less c = omega arith
+
+loop-again : tie.Need-loop-again Inv-loop μ-loop
+loop-again c =
+    let v = c .before .before .before .before .before .before .before .before .before .before .before .loop .inv in
+    let x = c .before .before .before .before .before .before .before .before .before .before .before .before .before .before .before .before .args in (
+      v .0,
+      v .1,
+      v .2,
+      v .3,
+      v .4,
+      v .5,
+      omega (arith, below (c .before .before .before .before .before .before .before .before .before .before)),
+      line-more (now (x .words)) (now (x .packs)) (now (x .marks)) (x .scan) (x .first) (c .before .before .before .before .before .before .before .before .before .before .before .loop .k) (next-kind (c .before .before .before .before .before .before .before)) (v .7) (c .before .before .put-line .ensures),
+    )
+
+same-length-2 : tie.Need-same-length-2 Inv-loop μ-loop
+same-length-2 c = put-long (c .before .loop .inv .7)
+
+returns-2 : tie.Need-returns-2 Inv-loop μ-loop
+returns-2 c =
+    let v = c .before .loop .inv in
+    let x = c .before .before .before .before .before .before .args in
+    let all : c .before .loop .k ≡ word (now (x .words)) 5 = omega (arith, v .2, v .6, c .loop-test .left) in
+    put-as (omega arith) (ap (entry-lines (now (x .words)) (now (x .packs)) (now (x .marks)) (x .scan) (x .first)) all) (v .7)
+
+pub put-scan-spec : {M : Type 1} → statement M
+put-scan-spec =
+    tie.close
+    (tie.spec
+    Inv-loop
+    μ-loop
+    loop-holds
+    cast-i
+    add-record-at
+    record-at-requires
+    enum-known-block
+    enum-told
+    same-length
+    returns
+    add-entry
+    add-put-line
+    mul-put-line
+    shared-slice-read-put-line
+    mul-put-line-2
+    shared-slice-read-put-line-2
+    put-line-requires
+    add-k
+    loop-less
+    loop-again
+    same-length-2
+    returns-2)

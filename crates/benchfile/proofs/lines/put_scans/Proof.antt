@@ -1,0 +1,136 @@
+-- `benchfile::lines::put_scans` meets its contract. The loop keeps that the lines of the first j scans are put. Assumes nothing.
+use borrow.Author.Needs.{needs}
+use native.Mathlib.Omega.{arith}
+use denote.Ref.{now}
+use mathlib.Core.Path.{_≡_, ap}
+use Prim.Native.Nat.{ℕ, _+_, _-_, _*_, _≤_}
+use lib.ListN.{length}
+use Rattle.network.specs.declared.checker.Opened.{Opened}
+use Rattle.network.specs.Record.{word}
+use Rattle.network.specs.Check.{opened, checked}
+use Rattle.scan.proofs.Repeating.{next-room}
+use Rattle.benchfile.specs.Inner.{Put, entries}
+use Rattle.benchfile.proofs.Putting.{put-none, put-long, put-as}
+use Rattle.benchfile.proofs.Printing.{scan-more}
+use Rattle.benchfile.proofs.lines.put_scans.Statement.{statement}
+use Rattle.benchfile.proofs.lines.put_scans.Tie as tie
+
+abbrev Inv-loop : tie.InvT-loop
+Inv-loop text₀ at words o from times packs marks count next₀ j₀ text next j =
+    (o ≡ opened words) × (checked words .number ≡ 0) × (count ≡ word words 5) × (from + times ≤ 65535) × (times * word words 5 ≤ length packs)
+    × (times * word words 5 ≤ length marks) × (at + 32 * (times * word words 5) ≤ length text₀) × (j ≤ times)
+    × Put (32 * (j * word words 5)) text₀ at (entries words packs marks from j) next text
+
+abbrev μ-loop : tie.MeasureT-loop
+μ-loop text₀ at words o from times packs marks count next₀ j₀ text next j = times - j
+
+-- where the next scan's entries start, and that they lie in the lists
+module _ (c : tie.In-loop Inv-loop μ-loop) where
+  first-is : c .before .loop .j * c .before .before .before .before .before .before .before .args .o .count ≡ c .before .loop .j * word (now (c .before .before .before .before .before .before .before .args .words)) 5
+  first-is = ap (λ (n : ℕ). c .before .loop .j * n) (c .before .loop .inv .2)
+
+  packs-room : c .before .loop .j * word (now (c .before .before .before .before .before .before .before .args .words)) 5 + word (now (c .before .before .before .before .before .before .before .args .words)) 5 ≤ length (now (c .before .before .before .before .before .before .before .args .packs))
+  packs-room = next-room (c .before .loop .j) (c .before .before .before .before .before .before .before .args .times) (word (now (c .before .before .before .before .before .before .before .args .words)) 5) (length (now (c .before .before .before .before .before .before .before .args .packs))) (c .loop-test .taken) (c .before .loop .inv .4)
+
+  marks-room : c .before .loop .j * word (now (c .before .before .before .before .before .before .before .args .words)) 5 + word (now (c .before .before .before .before .before .before .before .args .words)) 5 ≤ length (now (c .before .before .before .before .before .before .before .args .marks))
+  marks-room = next-room (c .before .loop .j) (c .before .before .before .before .before .before .before .args .times) (word (now (c .before .before .before .before .before .before .before .args .words)) 5) (length (now (c .before .before .before .before .before .before .before .args .marks))) (c .loop-test .taken) (c .before .loop .inv .5)
+
+  text-room : c .before .loop .next + 32 * word (now (c .before .before .before .before .before .before .before .args .words)) 5 ≤ length (c .before .loop .text)
+  text-room =
+      let v = c .before .loop .inv in
+      omega (
+        arith,
+        v .6,
+        v .8 .few,
+        v .8 .reaches,
+        put-long (v .8),
+        next-room (c .before .loop .j) (c .before .before .before .before .before .before .before .args .times) (word (now (c .before .before .before .before .before .before .before .args .words)) 5) (c .before .before .before .before .before .before .before .args .times * word (now (c .before .before .before .before .before .before .before .args .words)) 5) (c .loop-test .taken) (omega arith),
+      )
+
+cast-count : tie.Need-cast-count Inv-loop μ-loop
+cast-count c = search needs
+
+loop-holds : tie.Need-loop-holds Inv-loop μ-loop
+unfolding opened entries
+loop-holds c =
+    let b = c .before .before .before .before .before in
+    let p = b .pre in (
+      p .opens,
+      p .accepted,
+      ap (λ (o : Opened). o .count) (p .opens),
+      p .numbered,
+      p .packs-room,
+      p .marks-room,
+      p .text-room,
+      omega arith,
+      put-none (32 * (0 * word (now (b .args .words)) 5)) (now (b .args .text)) (b .args .at) (omega (arith, p .text-room)),
+    )
+
+cast-first : tie.Need-cast-first Inv-loop μ-loop
+cast-first c = search needs
+
+mul-first : tie.Need-mul-first Inv-loop μ-loop
+mul-first c = omega (arith, first-is c, packs-room c)
+
+add-put-scan : tie.Need-add-put-scan Inv-loop μ-loop
+add-put-scan c = omega (arith, c .before .before .loop .inv .3)
+
+put-scan-requires : tie.Need-put-scan-requires Inv-loop μ-loop
+put-scan-requires c κs =
+    let v = c .before .before .loop .inv in
+    record {
+      opens = v .0;
+      accepted = v .1;
+      packs-room = omega (arith, first-is (c .before), packs-room (c .before));
+      marks-room = omega (arith, first-is (c .before), marks-room (c .before));
+      text-room = text-room (c .before);
+    }
+
+add-j : tie.Need-add-j Inv-loop μ-loop
+add-j c = omega arith
+
+loop-less : tie.Need-loop-less Inv-loop μ-loop
+loop-less c = omega arith
+
+loop-again : tie.Need-loop-again Inv-loop μ-loop
+loop-again c =
+    let v = c .before .before .before .before .before .loop .inv in
+    let x = c .before .before .before .before .before .before .before .before .before .before .before .args in (
+      v .0,
+      v .1,
+      v .2,
+      v .3,
+      v .4,
+      v .5,
+      v .6,
+      omega (arith, c .before .before .before .before .loop-test .taken),
+      scan-more (now (x .words)) (now (x .packs)) (now (x .marks)) (x .from) (c .before .before .before .before .before .loop .j) (first-is (c .before .before .before .before)) (v .8) (c .before .before .put-scan .ensures),
+    )
+
+same-length : tie.Need-same-length Inv-loop μ-loop
+same-length c = put-long (c .before .loop .inv .8)
+
+returns : tie.Need-returns Inv-loop μ-loop
+returns c =
+    let v = c .before .loop .inv in
+    let x = c .before .before .before .before .before .before .before .args in
+    let all : c .before .loop .j ≡ x .times = omega (arith, v .7, c .loop-test .left) in
+    put-as (omega (arith, ap (λ (n : ℕ). n * word (now (x .words)) 5) all)) (ap (entries (now (x .words)) (now (x .packs)) (now (x .marks)) (x .from)) all) (v .8)
+
+pub put-scans-spec : {M : Type 1} → statement M
+put-scans-spec =
+    tie.close
+    (tie.spec
+    Inv-loop
+    μ-loop
+    cast-count
+    loop-holds
+    cast-first
+    mul-first
+    add-put-scan
+    put-scan-requires
+    add-j
+    loop-less
+    loop-again
+    same-length
+    returns)
