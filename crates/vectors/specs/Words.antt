@@ -11,13 +11,13 @@ use Rattle.network.specs.Record.{word}
 abbrev pub most-blocks : ℕ
 most-blocks = 12
 
--- the areas of nearly every case
-abbrev pub areas : Sizes
-areas = record { coils = 32; discretes = 16; inputs = 96; holding = 820 }
+-- the areas that four words from a place on spell
+abbrev pub sizes-at : List ℕ → ℕ → Sizes
+sizes-at ws k = record { coils = word ws k; discretes = word ws (k + 1); inputs = word ws (k + 2); holding = word ws (k + 3) }
 
 -- a network of these areas without blocks, and zeros where its blocks will stand
-abbrev pub no-blocks : List ℕ
-no-blocks = 4 ∷ 32 ∷ 16 ∷ 96 ∷ 820 ∷ replicate 181 0
+abbrev pub no-blocks : Sizes → List ℕ
+no-blocks z = 4 ∷ z .coils ∷ z .discretes ∷ z .inputs ∷ z .holding ∷ replicate 181 0
 
 -- how many blocks it has
 abbrev pub count : List ℕ → ℕ

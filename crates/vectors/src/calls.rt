@@ -1,161 +1,83 @@
-// The other public calls at the edges that document 01 names: the part of a table that is a matrix, the record writer, the
-// reader, the pointer steps, and refusal 12.
-use crate::case::line;
-use crate::image::load;
-use crate::image::table_of;
+// The part of a table that is a matrix, and refusal 12, at the edges that document 01 names.
 use crate::print;
-use crate::words::AREAS;
-use crate::words::add;
-use crate::words::no_blocks;
-use crate::words::sizes;
-use network::Sizes;
-ghost use Prim.Native.Nat.{_≤_};
+use crate::scans::lend;
+use crate::walk::walk;
+use crate::words::at_most;
+use crate::words::sizes_of;
 
-// How many words the part has, its first and its last.
-fn part(name: &[u8], sizes: Sizes, table: &[u16], class: u16, number: u16, n: u16) {
-    let shown = network::matrix(table, sizes, class, number, n);
+// How many words the part has, its first and its last. The row: the words of the four areas, how many words of the table are
+// lent, the class, the number and the length.
+pub(crate) fn part(name: &[u8], row: [u16; 40], table: &[u16]) {
+    let size = at_most(row[4] as u32, table.len());
+    let shown = network::matrix(&table[..size], sizes_of(row), row[5], row[6], row[7]);
     print::text(name);
     print::text(b": words ");
     print::decimal(shown.len());
     print::ends(shown);
-    print::text(b"\n");
+    print::byte(b'\n');
 }
 
-// Two words of coils, one of discrete inputs, one input register, two holding registers.
-fn small_part(name: &[u8], class: u16, number: u16, n: u16) {
-    part(
-        name,
-        sizes(2, 1, 1, 2),
-        &[1, 2, 3, 4, 5, 6],
-        class,
-        number,
-        n,
+// One scan. The row: how many words of the network, words of the table and outputs are lent.
+pub(crate) fn lent(name: &[u8], row: [u16; 40], words: [u16; 186], table: &mut [u16; 965]) {
+    let end = at_most(row[0] as u32, 186);
+    let size = at_most(row[1] as u32, 965);
+    let room = at_most(row[2] as u32, 12);
+    lend(name, words, end, table, size, room);
+}
+
+pub(crate) fn parts() {
+    walk(
+        b"
+# In the table 1 to 6 are the first words, 7 is word 128 and word 512, and 1, 2, 3 and 4 are 40001, 40255, 40566 and 40820.
+# Two words of coils, one of discrete inputs, one input register, two holding registers.
+matrix, 00001 of 2: / 0 1 1 0 17 2 0 33 3 0 49 4 0 65 5 0 81 6 3 80 7 4 368 7 4 1 1 4 255 2 4 566 3 4 820 4, \
+    m 2 1 1 2 6 0 1 2
+matrix, 00001 of 3: m 2 1 1 2 6 0 1 3
+matrix, 00017 of 1: m 2 1 1 2 6 0 17 1
+matrix, 00016 of 1: m 2 1 1 2 6 0 16 1
+matrix, 00033 of 1: m 2 1 1 2 6 0 33 1
+matrix, 10001 of 1: m 2 1 1 2 6 1 1 1
+matrix, 10017 of 1: m 2 1 1 2 6 1 17 1
+matrix, 30001 of 1: m 2 1 1 2 6 3 1 1
+matrix, 40001 of 2: m 2 1 1 2 6 4 1 2
+matrix, 40002 of 1: m 2 1 1 2 6 4 2 1
+matrix, 40002 of 2: m 2 1 1 2 6 4 2 2
+matrix, 40000 of 1: m 2 1 1 2 6 4 0 1
+matrix, 40001 of 0: m 2 1 1 2 6 4 1 0
+matrix, class 2: m 2 1 1 2 6 2 1 1
+matrix, class 9: m 2 1 1 2 6 9 1 1
+# The areas of nearly every case.
+matrix, 40001 of 255: m 32 16 96 820 964 4 1 255
+matrix, 40566 of 255: m 32 16 96 820 964 4 566 255
+matrix, 40567 of 255: m 32 16 96 820 964 4 567 255
+matrix, 40001 of 256: m 32 16 96 820 964 4 1 256
+matrix, a word short: m 32 16 96 820 963 4 1 255
+# Discretes alone, then input registers alone, at the limit and over it.
+matrix, 128 words of coils: m 128 0 0 0 128 0 2033 1
+matrix, 129 words of coils: m 129 0 0 0 129 0 2033 1
+matrix, 128 words of discrete inputs: m 0 128 0 0 128 1 2033 1
+matrix, 129 words of discrete inputs: m 0 129 0 0 129 1 2033 1
+matrix, 512 input registers: m 0 0 512 0 512 3 512 1
+matrix, 513 input registers: m 0 0 513 0 513 3 512 1
+",
     );
 }
 
-fn parts() {
-    small_part(b"matrix, 00001 of 2", 0, 1, 2);
-    small_part(b"matrix, 00001 of 3", 0, 1, 3);
-    small_part(b"matrix, 00017 of 1", 0, 17, 1);
-    small_part(b"matrix, 00016 of 1", 0, 16, 1);
-    small_part(b"matrix, 00033 of 1", 0, 33, 1);
-    small_part(b"matrix, 10001 of 1", 1, 1, 1);
-    small_part(b"matrix, 10017 of 1", 1, 17, 1);
-    small_part(b"matrix, 30001 of 1", 3, 1, 1);
-    small_part(b"matrix, 40001 of 2", 4, 1, 2);
-    small_part(b"matrix, 40002 of 1", 4, 2, 1);
-    small_part(b"matrix, 40002 of 2", 4, 2, 2);
-    small_part(b"matrix, 40000 of 1", 4, 0, 1);
-    small_part(b"matrix, 40001 of 0", 4, 1, 0);
-    small_part(b"matrix, class 2", 2, 1, 1);
-    small_part(b"matrix, class 9", 9, 1, 1);
-}
-
-// The areas of nearly every case, with both ends of two matrices marked.
-fn part_lengths() {
-    let table = table_of(&[4, 1, 1, 4, 255, 2, 4, 566, 3, 4, 820, 4]);
-    let short = [1u16; 963];
-    part(b"matrix, 40001 of 255", AREAS, &table, 4, 1, 255);
-    part(b"matrix, 40566 of 255", AREAS, &table, 4, 566, 255);
-    part(b"matrix, 40567 of 255", AREAS, &table, 4, 567, 255);
-    part(b"matrix, 40001 of 256", AREAS, &table, 4, 1, 256);
-    part(b"matrix, a word short", AREAS, &short, 4, 1, 255);
-}
-
-// Discretes alone, at the limit and over it.
-fn part_discretes() {
-    let table = [7u16; 129];
-    part(
-        b"matrix, 128 words of coils",
-        sizes(128, 0, 0, 0),
-        &table[..128],
-        0,
-        2033,
-        1,
+pub(crate) fn lendings() {
+    walk(
+        b"
+# CMPR of 40001 with 40003, whose pointer is 40002. Refusal 12 comes after the network's own; entries after the count stay.
+all lent: * 5 1 4 1 4 2 1, / 4 1 0x8001, ! 21 964 1
+entries after the count: / 4 1 0x8001, ! 21 964 3
+table a word short: / 4 1 0x8001, ! 21 963 1
+table a word long: / 4 1 0x8001, ! 21 965 1
+no table: / 4 1 0x8001, ! 21 0 1
+no outputs: / 4 1 0x8001, ! 21 964 0
+no table, no outputs, length 0: * 5 0 4 1 4 2 1, / 4 1 0x8001, ! 21 0 0
+no blocks, no outputs: - 32 16 96 820, / 4 1 0x8001, ! 6 964 0
+words left over: * 5 1 4 1 4 2 1, / 4 1 0x8001, ! 22 964 1
+words left over, no outputs: / 4 1 0x8001, ! 22 964 0
+the last word missing: / 4 1 0x8001, ! 20 964 1
+",
     );
-    part(
-        b"matrix, 129 words of coils",
-        sizes(129, 0, 0, 0),
-        &table,
-        0,
-        2033,
-        1,
-    );
-    part(
-        b"matrix, 128 words of discrete inputs",
-        sizes(0, 128, 0, 0),
-        &table[..128],
-        1,
-        2033,
-        1,
-    );
-    part(
-        b"matrix, 129 words of discrete inputs",
-        sizes(0, 129, 0, 0),
-        &table,
-        1,
-        2033,
-        1,
-    );
-}
-
-// Input registers alone, at the limit and over it.
-fn part_registers() {
-    let table = [7u16; 513];
-    part(
-        b"matrix, 512 input registers",
-        sizes(0, 0, 512, 0),
-        &table[..512],
-        3,
-        512,
-        1,
-    );
-    part(
-        b"matrix, 513 input registers",
-        sizes(0, 0, 513, 0),
-        &table,
-        3,
-        512,
-        1,
-    );
-}
-
-// One scan of the first words of a network, with so many words of a table and so many outputs lent.
-fn lend(name: &[u8], words: [u16; 186], end: usize, size: usize, room: usize)
-    requires { ⌜ (end ≤ 186) × (size ≤ 965) × (room ≤ 3) ⌝ }
-{
-    let mut table = [0u16; 965];
-    let mut outputs = [9u16; 3];
-    load(&mut table, &[4, 1, 0x8001]);
-    line(
-        name,
-        &words[..end],
-        &mut table[..size],
-        &mut outputs[..room],
-    );
-}
-
-// CMPR of 40001 with 40003, whose pointer is 40002. Refusal 12 comes after the network's own; entries after the count stay.
-fn lent() {
-    let words = add(no_blocks(), &[5, 1, 4, 1, 4, 2, 1]);
-    let wrong = add(no_blocks(), &[5, 0, 4, 1, 4, 2, 1]);
-    lend(b"all lent", words, 21, 964, 1);
-    lend(b"entries after the count", words, 21, 964, 3);
-    lend(b"table a word short", words, 21, 963, 1);
-    lend(b"table a word long", words, 21, 965, 1);
-    lend(b"no table", words, 21, 0, 1);
-    lend(b"no outputs", words, 21, 964, 0);
-    lend(b"no table, no outputs, length 0", wrong, 21, 0, 0);
-    lend(b"no blocks, no outputs", no_blocks(), 6, 964, 0);
-    lend(b"words left over", words, 22, 964, 1);
-    lend(b"words left over, no outputs", words, 22, 964, 0);
-    lend(b"the last word missing", words, 20, 964, 1);
-}
-
-pub(crate) fn all() {
-    parts();
-    part_lengths();
-    part_discretes();
-    part_registers();
-    lent();
 }

@@ -5,10 +5,8 @@
 // worth 1, middle 2, bottom 4), and the words of the table that are not 0, in hex, each after its reference: of its first bit
 // where the word is of discretes. A refused scan shows 9, as lent, for every output.
 //
-// A block is given by its record, the 15 words of document 01 in their order, with the zeros at its end left out; a table by
-// the class, the number and the word of each reference that is not 0.
+// The cases are given as text. How it is spelled stands at the head of `walk`.
 mod calls;
-mod case;
 mod coils;
 mod compare;
 mod guide;
@@ -21,7 +19,10 @@ mod overlap;
 mod pointers;
 mod print;
 mod records;
+mod scans;
 mod sense;
+mod text;
+mod walk;
 mod words;
 
 fn main() {
@@ -33,8 +34,12 @@ fn main() {
     overlap::all();
     inputs::all();
     pointers::all();
-    calls::all();
+    calls::parts();
+    calls::lendings();
     records::all();
-    guide::all();
-    manual::all();
+    guide::figures_4_1_to_4_6();
+    guide::figures_4_7_to_4_12();
+    manual::figures_76_to_79();
+    manual::figures_80_to_83();
+    manual::figures_84_and_85();
 }

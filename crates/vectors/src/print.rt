@@ -12,6 +12,10 @@ pub(crate) fn text(s: &[u8]) {
     io::write_all(1, s);
 }
 
+pub(crate) fn byte(b: u8) {
+    text(&[b]);
+}
+
 pub(crate) fn decimal(n: usize) {
     io::print_decimal(1, n as u64);
 }
@@ -44,21 +48,22 @@ fn reference(sizes: Sizes, i: usize) -> usize
     40001 + (i - holding)
 }
 
+// The last digit of a number.
+fn digit(n: usize) -> u8 {
+    b'0' + (n % 10) as u8
+}
+
 // A reference with its five digits.
 fn five(n: usize) {
-    if n < 10 {
-        text(b"0");
-    }
-    if n < 100 {
-        text(b"0");
-    }
-    if n < 1000 {
-        text(b"0");
-    }
-    if n < 10000 {
-        text(b"0");
-    }
-    decimal(n);
+    text(
+        &[
+            digit(n / 10000),
+            digit(n / 1000),
+            digit(n / 100),
+            digit(n / 10),
+            digit(n),
+        ],
+    );
 }
 
 // A word of a table after its reference; no table here has MOST words.
@@ -66,9 +71,9 @@ fn word_of(sizes: Sizes, i: usize, w: u16) {
     if MOST <= i {
         return;
     }
-    text(b" ");
+    byte(b' ');
     five(reference(sizes, i));
-    text(b"=");
+    byte(b'=');
     word(w);
 }
 
@@ -90,7 +95,7 @@ pub(crate) fn numbers(name: &[u8], list: &[u16]) {
     text(name);
     let mut i = 0;
     while i < list.len() {
-        text(b" ");
+        byte(b' ');
         number(list[i]);
         i += 1;
     }
@@ -111,7 +116,7 @@ pub(crate) fn ends(part: &[u16]) {
 pub(crate) fn refusal(verdict: Verdict) {
     text(b" refused ");
     number(verdict.number);
-    text(b" ");
+    byte(b' ');
     decimal(verdict.place);
 }
 
@@ -121,5 +126,5 @@ pub(crate) fn verdict(verdict: Verdict) {
         return;
     }
     refusal(verdict);
-    text(b",");
+    byte(b',');
 }

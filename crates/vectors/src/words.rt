@@ -1,4 +1,4 @@
-// A network in words, built block by block; a record; sizes.
+// A network in words, built block by block; a record; the areas.
 use network::Block;
 use network::Coils;
 use network::Input;
@@ -6,8 +6,9 @@ use network::Inputs;
 use network::Node;
 use network::Sizes;
 ghost use mathlib.Core.Path.{_≡_};
+ghost use Prim.Native.Nat.{min};
 ghost use Rattle.network.specs.Record.{word, block-at};
-ghost use Rattle.vectors.specs.Words.{no-blocks, count, added};
+ghost use Rattle.vectors.specs.Words.{sizes-at, no-blocks, count, added};
 
 // The most blocks of a network here.
 const MOST_BLOCKS: u16 = 12;
@@ -20,17 +21,6 @@ pub(crate) const AREAS: Sizes = Sizes {
     holding: 820,
 };
 
-pub(crate) fn sizes(coils: u16, discretes: u16, inputs: u16, holding: u16) -> Sizes
-    ensures { λ r. ⌜ (r .coils ≡ coils) × (r .discretes ≡ discretes) × (r .inputs ≡ inputs) × (r .holding ≡ holding) ⌝ }
-{
-    Sizes {
-        coils,
-        discretes,
-        inputs,
-        holding,
-    }
-}
-
 // The word at an index, or 0 where there is none.
 fn word_at(words: &[u16], i: usize) -> u16
     ensures { λ r. ⌜ r ≡ word (now (words .entry)) i ⌝ }
@@ -39,6 +29,30 @@ fn word_at(words: &[u16], i: usize) -> u16
         return words[i];
     }
     0
+}
+
+// The areas that the first four words of a row spell.
+pub(crate) fn sizes_of(row: [u16; 40]) -> Sizes
+    ensures { λ r. ⌜ r ≡ sizes-at row 0 ⌝ }
+{
+    Sizes {
+        coils: row[0],
+        discretes: row[1],
+        inputs: row[2],
+        holding: row[3],
+    }
+}
+
+// The areas of a network.
+pub(crate) fn areas_of(words: [u16; 186]) -> Sizes
+    ensures { λ r. ⌜ r ≡ sizes-at words 1 ⌝ }
+{
+    Sizes {
+        coils: words[1],
+        discretes: words[2],
+        inputs: words[3],
+        holding: words[4],
+    }
 }
 
 fn node(given: &[u16], class: usize, number: usize) -> Node
@@ -81,17 +95,28 @@ pub(crate) fn block_of(given: &[u16]) -> Block
     }
 }
 
-// A network of the areas without blocks; the words after it are 0.
-pub(crate) fn no_blocks() -> [u16; 186]
-    ensures { λ r. ⌜ r ≡ no-blocks ⌝ }
+// A network of these areas without blocks; the words after it are 0.
+pub(crate) fn no_blocks(sizes: Sizes) -> [u16; 186]
+    ensures { λ r. ⌜ r ≡ no-blocks sizes ⌝ }
 {
     let mut words = [0u16; 186];
     words[0] = 4;
-    words[1] = 32;
-    words[2] = 16;
-    words[3] = 96;
-    words[4] = 820;
+    words[1] = sizes.coils;
+    words[2] = sizes.discretes;
+    words[3] = sizes.inputs;
+    words[4] = sizes.holding;
     words
+}
+
+// A number, or the most that there is.
+pub(crate) fn at_most(n: u32, most: usize) -> usize
+    ensures { λ r. ⌜ r ≡ min n most ⌝ }
+{
+    let n = n as usize;
+    if n < most {
+        return n;
+    }
+    most
 }
 
 // How many blocks a network has.
@@ -105,9 +130,9 @@ pub(crate) fn count_of(words: &[u16; 186]) -> usize
     MOST_BLOCKS as usize
 }
 
-// The network with one more block. Of the block's 15 words those after the given ones are 0: never, and no coil.
-pub(crate) fn add(words: [u16; 186], given: &[u16]) -> [u16; 186]
-    ensures { λ r. ⌜ r ≡ added words (now (given .entry)) ⌝ }
+// The network with one more block, whose record the first 15 words of a row spell.
+pub(crate) fn add(words: [u16; 186], row: [u16; 40]) -> [u16; 186]
+    ensures { λ r. ⌜ r ≡ added words row ⌝ }
 {
     let mut longer = words;
     let blocks = count_of(&words);
@@ -118,10 +143,7 @@ pub(crate) fn add(words: [u16; 186], given: &[u16]) -> [u16; 186]
     longer[5] = (blocks + 1) as u16;
     let mut i = 0;
     while i < 15 {
-        if given.len() <= i {
-            return longer;
-        }
-        longer[at + i] = given[i];
+        longer[at + i] = row[i];
         i += 1;
     }
     longer

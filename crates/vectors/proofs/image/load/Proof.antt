@@ -8,17 +8,16 @@ use native.Mathlib.Omega.{arith}
 use borrow.Author.Needs.{needs}
 use lib.ListN.{length, getD, length-set}
 use Rattle.network.specs.Table.{start-of}
-use Rattle.vectors.specs.Words.{areas}
 use Rattle.vectors.specs.Image.{put, loaded}
 use Rattle.vectors.proofs.image.load.Statement.{statement}
 use Rattle.vectors.proofs.image.load.Tie as tie
 
 abbrev Inv-loop : tie.InvT-loop
-Inv-loop table₀ image count i₀ table i =
-    (count ≡ length image / 3) × (i ≤ count) × (length table ≡ length table₀) × (table ≡ loaded table₀ image i)
+Inv-loop table₀ sizes image count i₀ table i =
+    (count ≡ length image / 3) × (i ≤ count) × (length table ≡ length table₀) × (table ≡ loaded sizes table₀ image i)
 
 abbrev μ-loop : tie.MeasureT-loop
-μ-loop table₀ image count i₀ table i = count - i
+μ-loop table₀ sizes image count i₀ table i = count - i
 
 loop-holds : tie.Need-loop-holds Inv-loop μ-loop
 loop-holds c = (refl, omega arith, refl, refl)
@@ -70,10 +69,10 @@ loop-again c =
     let w = getD image (3 * l .i + 2) 0 in (
       refl,
       omega arith,
-      ap length put-in ∙ length-set (l .table) (start-of areas class number) w ∙ l .inv .2,
+      ap length put-in ∙ length-set (l .table) (start-of (x .sizes) class number) w ∙ l .inv .2,
       put-in
-          ∙ ap (λ (t : List ℕ). put t class number w) (l .inv .3)
-          ∙ sym (ap (loaded (now (x .table)) image) (add-one (l .i))),
+          ∙ ap (λ (t : List ℕ). put (x .sizes) t class number w) (l .inv .3)
+          ∙ sym (ap (loaded (x .sizes) (now (x .table)) image) (add-one (l .i))),
     )
 
 same-length : tie.Need-same-length Inv-loop μ-loop
@@ -84,7 +83,7 @@ returns c =
     let x = c .before .before .before .before .args in
     let i = c .before .loop .i in
     let all : i ≡ length (now (x .image)) / 3 = omega arith in
-    c .before .loop .inv .3 ∙ ap (loaded (now (x .table)) (now (x .image))) all
+    c .before .loop .inv .3 ∙ ap (loaded (x .sizes) (now (x .table)) (now (x .image))) all
 
 pub load-spec : {M : Type 1} → statement M
 load-spec =

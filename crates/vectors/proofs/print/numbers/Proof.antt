@@ -6,10 +6,10 @@ use Rattle.vectors.proofs.print.numbers.Statement.{statement}
 use Rattle.vectors.proofs.print.numbers.Tie as tie
 
 abbrev Inv-loop : tie.InvT-loop
-Inv-loop name list i₀ t4 i = i ≤ length list
+Inv-loop name list i₀ i = i ≤ length list
 
 abbrev μ-loop : tie.MeasureT-loop
-μ-loop name list i₀ t4 i = length list - i
+μ-loop name list i₀ i = length list - i
 
 text-requires : tie.Need-text-requires Inv-loop μ-loop
 text-requires c κs = search needs
@@ -17,11 +17,8 @@ text-requires c κs = search needs
 loop-holds : tie.Need-loop-holds Inv-loop μ-loop
 loop-holds c = search needs
 
-slice-aggregate-text : tie.Need-slice-aggregate-text Inv-loop μ-loop
-slice-aggregate-text c = search needs
-
-text-requires-2 : tie.Need-text-requires-2 Inv-loop μ-loop
-text-requires-2 c κs = search needs
+byte-requires : tie.Need-byte-requires Inv-loop μ-loop
+byte-requires c κs = search needs
 
 mul-number : tie.Need-mul-number Inv-loop μ-loop
 mul-number c = search needs
@@ -52,8 +49,7 @@ numbers-spec =
     μ-loop
     text-requires
     loop-holds
-    slice-aggregate-text
-    text-requires-2
+    byte-requires
     mul-number
     shared-slice-read-number
     number-requires

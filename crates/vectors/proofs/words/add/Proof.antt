@@ -30,11 +30,11 @@ all-added ws given k e h =
     ∙ sym (ap (λ (b : Bool). cond b (sets (set ws 5 (count ws + 1)) (6 + 15 * count ws) (take 15 given)) ws) (lt-ltb (count ws) 12 room))
 
 abbrev Inv-loop : tie.InvT-loop
-Inv-loop given longer₀ blocks at i₀ longer i =
-    (at + 15 ≤ 186) × (i ≤ 15) × (i ≤ length given) × (length longer ≡ 186) × (longer ≡ sets longer₀ at (take i given))
+Inv-loop row longer₀ blocks at i₀ longer i =
+    (at + 15 ≤ 186) × (i ≤ 15) × (length row ≡ 40) × (length longer ≡ 186) × (longer ≡ sets longer₀ at (take i row))
 
 abbrev μ-loop : tie.MeasureT-loop
-μ-loop given longer₀ blocks at i₀ longer i = 15 - i
+μ-loop row longer₀ blocks at i₀ longer i = 15 - i
 
 count-of-requires : tie.Need-count-of-requires Inv-loop μ-loop
 count-of-requires c κs = search needs
@@ -44,9 +44,9 @@ cast-if1 c = omega arith
 
 returns : tie.Need-returns Inv-loop μ-loop
 returns c =
-    let x = c .before .before .before .before .args in
+    let x = c .before .before .before .args in
     let full : 12 ≤ count (x .t1) = omega (arith, c .if1 .taken, c .before .count-of .ensures) in
-    sym (ap (λ (b : Bool). cond b (sets (set (x .t1) 5 (count (x .t1) + 1)) (6 + 15 * count (x .t1)) (take 15 (now (x .given)))) (x .t1)) (le-ltb (count (x .t1)) 12 full))
+    sym (ap (λ (b : Bool). cond b (sets (set (x .t1) 5 (count (x .t1) + 1)) (6 + 15 * count (x .t1)) (take 15 (x .t2))) (x .t1)) (le-ltb (count (x .t1)) 12 full))
 
 mul-at : tie.Need-mul-at Inv-loop μ-loop
 mul-at c = omega arith
@@ -65,25 +65,15 @@ array-write-longer c = omega arith
 
 loop-holds : tie.Need-loop-holds Inv-loop μ-loop
 loop-holds c =
-    let ws = c .before .before .before .before .args .t1 in
+    let ws = c .before .before .before .args .t1 in
     let long : length ws ≡ 186 = omega arith in
     (omega arith, omega arith, omega arith, length-set ws 5 (c .before .count-of .result + 1) ∙ long, refl)
-
-returns-2 : tie.Need-returns-2 Inv-loop μ-loop
-returns-2 c =
-    let x = c .before .before .before .before .before .before .before .args in
-    let l = c .before .before .loop in
-    let given = now (x .given) in
-    let blocks = c .before .before .before .before .count-of in
-    l .inv .4
-    ∙ ap (sets (set (x .t1) 5 (blocks .result + 1)) (6 + 15 * blocks .result)) (take-all (l .i) given (c .if2 .taken) ∙ sym (take-all 15 given (omega arith)))
-    ∙ all-added (x .t1) given (blocks .result) (blocks .ensures) (omega arith)
 
 mul-longer : tie.Need-mul-longer Inv-loop μ-loop
 mul-longer c = omega arith
 
-shared-slice-read-longer : tie.Need-shared-slice-read-longer Inv-loop μ-loop
-shared-slice-read-longer c = omega arith
+array-read-longer : tie.Need-array-read-longer Inv-loop μ-loop
+array-read-longer c = omega arith
 
 add-longer-2 : tie.Need-add-longer-2 Inv-loop μ-loop
 add-longer-2 c = omega arith
@@ -102,10 +92,10 @@ loop-less c = omega arith
 
 loop-again : tie.Need-loop-again Inv-loop μ-loop
 loop-again c =
-    let x = c .before .before .before .before .before .before .before .before .args in
-    let l = c .before .before .before .loop in
-    let given = now (x .given) in
-    let k = c .before .before .before .before .before .count-of .result in
+    let x = c .before .before .before .before .before .args in
+    let l = c .before .loop in
+    let given = x .t2 in
+    let k = c .before .before .before .count-of .result in
     let base = set (x .t1) 5 (k + 1) in
     let at = 6 + 15 * k in
     let w = getD given (l .i) 0 in (
@@ -120,11 +110,11 @@ loop-again c =
           ∙ ap (λ (j : ℕ). sets base at (take j given)) (sym (add-one (l .i))),
     )
 
-returns-3 : tie.Need-returns-3 Inv-loop μ-loop
-returns-3 c =
-    let x = c .before .before .before .before .before .before .args in
+returns-2 : tie.Need-returns-2 Inv-loop μ-loop
+returns-2 c =
+    let x = c .before .before .before .before .before .args in
     let l = c .before .loop in
-    let given = now (x .given) in
+    let given = x .t2 in
     let blocks = c .before .before .before .count-of in
     let all : l .i ≡ 15 = omega arith in
     l .inv .4
@@ -146,13 +136,12 @@ add-spec =
     cast-longer
     array-write-longer
     loop-holds
-    returns-2
     mul-longer
-    shared-slice-read-longer
+    array-read-longer
     add-longer-2
     mul-longer-2
     array-write-longer-2
     add-i
     loop-less
     loop-again
-    returns-3)
+    returns-2)

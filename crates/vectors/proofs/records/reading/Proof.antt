@@ -1,19 +1,16 @@
--- `vectors::records::read` meets its contract: the words read are among the network's. Assumes nothing.
+-- `vectors::records::reading` meets its contract: the words read are among the network's. Assumes nothing.
 use mathlib.Core.Path.{sym}
 use native.Mathlib.Omega.{arith}
 use lib.Seq.{length-take-le}
 use borrow.Author.Needs.{needs}
-use Rattle.vectors.proofs.records.read.Statement.{statement}
-use Rattle.vectors.proofs.records.read.Tie as tie
+use Rattle.vectors.proofs.records.reading.Statement.{statement}
+use Rattle.vectors.proofs.records.reading.Tie as tie
 
 text-requires : tie.Need-text-requires
 text-requires c κs = search needs
 
-slice-aggregate-text : tie.Need-slice-aggregate-text
-slice-aggregate-text c = search needs
-
-text-requires-2 : tie.Need-text-requires-2
-text-requires-2 c κs = search needs
+byte-requires : tie.Need-byte-requires
+byte-requires c κs = search needs
 
 array-share-prefix-words : tie.Need-array-share-prefix-words
 array-share-prefix-words c = search needs
@@ -45,22 +42,18 @@ enum-known-verdict c = search needs
 refusal-requires : tie.Need-refusal-requires
 refusal-requires c κs = search needs
 
-slice-aggregate-text-2 : tie.Need-slice-aggregate-text-2
-slice-aggregate-text-2 c = search needs
-
-text-requires-3 : tie.Need-text-requires-3
-text-requires-3 c κs = search needs
+byte-requires-2 : tie.Need-byte-requires-2
+byte-requires-2 c κs = search needs
 
 returns : tie.Need-returns
 returns c = search needs
 
-pub read-spec : {M : Type 1} → statement M
-read-spec =
+pub reading-spec : {M : Type 1} → statement M
+reading-spec =
     tie.close
     (tie.spec
     text-requires
-    slice-aggregate-text
-    text-requires-2
+    byte-requires
     array-share-prefix-words
     slice-aggregate-record-of
     record-of-requires
@@ -71,6 +64,5 @@ read-spec =
     numbers-requires
     enum-known-verdict
     refusal-requires
-    slice-aggregate-text-2
-    text-requires-3
+    byte-requires-2
     returns)
