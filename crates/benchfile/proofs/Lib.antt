@@ -1,5 +1,6 @@
 -- The laws of the definitions.
 pub mod Accepted
+pub mod Decimal
 pub mod Determined
 pub mod Examples
 pub mod Filling

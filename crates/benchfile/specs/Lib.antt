@@ -4,4 +4,5 @@ pub mod Words
 pub mod File
 pub mod Whole
 pub mod Text
+pub mod Decimal
 pub mod Inner
