@@ -1,0 +1,216 @@
+#!/usr/bin/env python3
+"""Makes the bench files that are timed, and small ones that are only compared: make_files.py FOLDER.
+
+Every file is the same at every run. FOLDER/timed gets the large files, FOLDER/compared the small ones, accepted and refused.
+"""
+import os
+import struct
+import sys
+
+KINDS = {"and": 1, "or": 2, "xor": 3, "comp": 4, "cmpr": 5, "mbit": 6, "sens": 7, "brot": 8}
+LONG = ("mbit", "sens")
+LIMITS = (128, 128, 512, 9999)
+NEVER, ALWAYS = (0, 0), (1, 0)
+NO_COILS = (0, 0, 0)
+
+
+class Numbers:
+    """Numbers that look chosen by chance, from a seed."""
+
+    def __init__(self, seed):
+        self.state = seed
+
+    def below(self, n):
+        self.state = (self.state * 6364136223846793005 + 1442695040888963407) % 2**64
+        return (self.state >> 33) % n
+
+    def among(self, things):
+        return things[self.below(len(things))]
+
+    def words(self, count):
+        return [self.below(65536) for _ in range(count)]
+
+
+def record(kind, n, top, middle, inputs, coils=NO_COILS):
+    return [kind, n, *top, *middle, *[w for one in inputs for w in one], *coils]
+
+
+def spell(sizes, records, image, scans):
+    """The words of a bench file."""
+    flat = [w for r in records for w in r]
+    return [4, *sizes, len(records), *flat, len(image), *image, 1, scans]
+
+
+def as_bytes(words):
+    return struct.pack(f">{len(words)}H", *words)
+
+
+def place(k, length, first, last):
+    """The k-th run of so many registers between two, starting again where there is no room."""
+    return first + k % ((last - first + 1) // length) * length
+
+
+# ---- one kind in all blocks, with power
+
+
+def one_kind(name, n, blocks, scans, differ=True):
+    """Blocks of one kind. Registers 1 to 128 are pointers, except CMPR's, which stand before their matrices."""
+    kind = KINDS[name]
+    numbers = Numbers(kind)
+    records = []
+    for k in range(blocks):
+        if name == "cmpr":
+            nodes = (3, 1 + k % (512 - n + 1)), (4, place(k, n + 1, 1, 9999))
+            inputs = ALWAYS, NEVER, NEVER
+        elif name in LONG:
+            nodes = (4, 1 + k), (4, place(k, n, 129, 9999))
+            inputs = ALWAYS, ALWAYS, ALWAYS if name == "mbit" else NEVER
+        else:
+            nodes = (4, place(2 * k, n, 129, 9999)), (4, place(2 * k + 1, n, 129, 9999))
+            inputs = ALWAYS, ALWAYS, ALWAYS
+        records.append(record(kind, n, *nodes, inputs))
+    source = [65535 if differ else 0] * 512
+    holding = [0] * 9999 if name == "cmpr" else [1] * 128 + numbers.words(9999 - 128)
+    return spell((0, 0, 512, 9999), records, source + holding, scans)
+
+
+# ---- all kinds together
+
+
+def matrix(numbers, classes, n, extra=0):
+    """A matrix of n words, and what stands beside it, where it fits in one of the classes."""
+    class_ = numbers.among([c for c in classes if n + extra <= LIMITS[{0: 0, 1: 1, 3: 2, 4: 3}[c]]])
+    room = LIMITS[{0: 0, 1: 1, 3: 2, 4: 3}[class_]] - n - extra + 1
+    start = numbers.below(room)
+    return class_, 16 * start + 1 if class_ <= 1 else start + 1
+
+
+def some_input(numbers, earlier):
+    """Mostly contacts and earlier outputs, as a network has them."""
+    code = numbers.among((1, 1, 2, 3, 4, 5, 6, 7, 8, 0))
+    if code >= 6:
+        return (code, 1 + numbers.below(earlier)) if earlier else ALWAYS
+    return code, 0 if code <= 1 else 1 + numbers.below(2048)
+
+
+def some_record(numbers, kind, n, earlier):
+    name = list(KINDS)[kind - 1]
+    if name in LONG:
+        top = numbers.among(((4, 1 + numbers.below(9999)), (4, 1 + numbers.below(9999)), (3, 1 + numbers.below(512)), (9, numbers.below(1000))))
+    else:
+        top = matrix(numbers, (0, 1, 3, 4), n)
+    middle = matrix(numbers, {"cmpr": (4,), "sens": (0, 1, 3, 4)}.get(name, (0, 4, 4, 4)), n, extra=name == "cmpr")
+    inputs = [some_input(numbers, earlier) for _ in range(3)]
+    if numbers.below(4):
+        inputs[0] = ALWAYS
+    coils = [numbers.among((0, 1 + numbers.below(2048))) for _ in range(3)]
+    return record(kind, n, top, middle, inputs, coils)
+
+
+def mix(blocks, scans, seed=1, lengths=(1, 1, 2, 4, 4, 8, 10, 16, 32, 64, 100)):
+    """All kinds in turn over the largest table."""
+    numbers = Numbers(seed)
+    records = [some_record(numbers, 1 + k % 8, numbers.among(lengths), k) for k in range(blocks)]
+    return spell(LIMITS, records, numbers.words(sum(LIMITS)), scans)
+
+
+def timed():
+    """Name and words of each file that is timed."""
+    yield "start", spell((0, 0, 0, 2), [record(KINDS["and"], 1, (4, 1), (4, 2), (ALWAYS, NEVER, NEVER))], [3, 5], 1)
+    for name in KINDS:
+        for n in (1, 10, 100, 255) if name in LONG else (1, 10, 100):
+            if name == "cmpr":
+                yield f"cmpr-{n}-dense", one_kind(name, n, 128, 1000)
+                yield f"cmpr-{n}-none", one_kind(name, n, 128, 1000, differ=False)
+            else:
+                yield f"{name}-{n}", one_kind(name, n, 128, 1000)
+    for blocks in (1, 16, 64):
+        yield f"mix-{blocks}-1000", mix(blocks, 1000)
+    for scans in (1, 10, 100):
+        yield f"mix-128-{scans}", mix(128, scans)
+    yield "mix-128-1000", mix(128, 1000)
+
+
+# ---- small files, to be compared and not timed
+
+
+def small(numbers):
+    """A small accepted file whose matrices and pointers meet often."""
+    sizes = [numbers.below(4), numbers.below(4), numbers.below(6), 3 + numbers.below(12)]
+    holding = sizes[3]
+    records = []
+    for k in range(numbers.below(9)):
+        kind = 1 + numbers.below(8)
+        n = 1 + numbers.below(holding - 1)
+        classes = [c for c, size in zip((0, 1, 3, 4), sizes) if n <= size]
+        written = [c for c in classes if c in (0, 4)]
+
+        def at(class_, room, length=n):
+            start = numbers.below(room - length + 1)
+            return class_, 16 * start + 1 if class_ <= 1 else start + 1
+
+        area = dict(zip((0, 1, 3, 4), sizes))
+        source = numbers.among(classes)
+        target = numbers.among(written)
+        top, middle = at(source, area[source]), at(target, area[target])
+        if kind == 5:
+            middle = at(4, holding, n + 1)
+        if kind in (6, 7):
+            top = numbers.among((at(4, holding, 1), at(4, holding, 1), (9, numbers.below(16 * n + 3))))
+            middle = at(source, area[source]) if kind == 7 else middle
+        codes = [0, 1, 1] + [2, 3] * (sizes[0] > 0) + [4, 5] * (sizes[1] > 0) + [6, 7, 8] * (k > 0)
+        inputs = []
+        for _ in range(3):
+            code = numbers.among(codes)
+            most = 16 * sizes[0] if code <= 3 else 16 * sizes[1] if code <= 5 else k
+            inputs.append((code, 0 if code <= 1 else 1 + numbers.below(most)))
+        coils = [numbers.below(16 * sizes[0] + 1) for _ in range(3)]
+        records.append(record(kind, n, top, middle, inputs, coils))
+    image = [numbers.among((0, 1, 2, 15, 16, 17, 32, 33, 65535, numbers.below(65536))) for _ in range(sum(sizes))]
+    return spell(sizes, records, image, 1 + numbers.below(40))
+
+
+def spoiled(numbers, words):
+    """The bytes of a file with something changed, cut off or added."""
+    words = list(words)
+    change = numbers.below(8)
+    if change < 5:
+        front = min(len(words), 6 + 15 * words[5])
+        i = numbers.below(front) if numbers.below(3) else numbers.below(len(words))
+        words[i] = numbers.among((0, 1, 2, 3, 4, 5, 8, 9, 16, 17, 100, 101, 255, 256, 999, 1000, 1001, 65535, (words[i] + 1) % 65536))
+    data = as_bytes(words)
+    if change == 5:
+        data = data[: numbers.below(len(data))]
+    if change == 6:
+        data += bytes(1 + numbers.below(3))
+    if change == 7:
+        data = data[: 2 * numbers.below(len(words))]
+    return data
+
+
+def compared(count=400):
+    """Name and bytes of each small file."""
+    for seed in range(count):
+        numbers = Numbers(1000 + seed)
+        words = small(numbers)
+        yield f"{seed:04}-whole", as_bytes(words)
+        yield f"{seed:04}-spoiled", spoiled(numbers, words)
+    yield "empty", b""
+    yield "one-byte", b"\0"
+    yield "no-blocks", as_bytes(spell((0, 0, 0, 0), [], [], 1000))
+    yield "too-long", as_bytes(mix(128, 1000)) + bytes(100000)
+
+
+def main():
+    if len(sys.argv) != 2:
+        sys.exit(__doc__.splitlines()[0])
+    for part, files in (("timed", ((n, as_bytes(w)) for n, w in timed())), ("compared", compared())):
+        folder = os.path.join(sys.argv[1], part)
+        os.makedirs(folder, exist_ok=True)
+        for name, data in files:
+            with open(os.path.join(folder, name), "wb") as out:
+                out.write(data)
+
+
+if __name__ == "__main__":
+    main()
