@@ -10,6 +10,7 @@ import sys
 KINDS = {"and": 1, "or": 2, "xor": 3, "comp": 4, "cmpr": 5, "mbit": 6, "sens": 7, "brot": 8}
 LONG = ("mbit", "sens")
 LIMITS = (128, 128, 512, 9999)
+CLASSES = (0, 1, 3, 4)
 NEVER, ALWAYS = (0, 0), (1, 0)
 NO_COILS = (0, 0, 0)
 
@@ -77,41 +78,44 @@ def one_kind(name, n, blocks, scans, differ=True):
 # ---- all kinds together
 
 
-def matrix(numbers, classes, n, extra=0):
-    """A matrix of n words, and what stands beside it, where it fits in one of the classes."""
-    class_ = numbers.among([c for c in classes if n + extra <= LIMITS[{0: 0, 1: 1, 3: 2, 4: 3}[c]]])
-    room = LIMITS[{0: 0, 1: 1, 3: 2, 4: 3}[class_]] - n - extra + 1
-    start = numbers.below(room)
+def matrix(numbers, sizes, classes, n, extra=0):
+    """A matrix of n words, and the registers beside it, somewhere in an area of one of the classes that has room."""
+    sizes = dict(zip(CLASSES, sizes))
+    class_ = numbers.among([c for c in classes if n + extra <= sizes[c]])
+    start = numbers.below(sizes[class_] - n - extra + 1)
     return class_, 16 * start + 1 if class_ <= 1 else start + 1
 
 
-def some_input(numbers, earlier):
-    """Mostly contacts and earlier outputs, as a network has them."""
-    code = numbers.among((1, 1, 2, 3, 4, 5, 6, 7, 8, 0))
-    if code >= 6:
-        return (code, 1 + numbers.below(earlier)) if earlier else ALWAYS
-    return code, 0 if code <= 1 else 1 + numbers.below(2048)
+def some_input(numbers, sizes, earlier, codes):
+    """An input with one of the codes that can be had here."""
+    most = {2: 16 * sizes[0], 3: 16 * sizes[0], 4: 16 * sizes[1], 5: 16 * sizes[1], 6: earlier, 7: earlier, 8: earlier}
+    code = numbers.among([c for c in codes if most.get(c, 1)])
+    return code, 1 + numbers.below(most[code]) if code in most else 0
 
 
-def some_record(numbers, kind, n, earlier):
-    name = list(KINDS)[kind - 1]
-    if name in LONG:
-        top = numbers.among(((4, 1 + numbers.below(9999)), (4, 1 + numbers.below(9999)), (3, 1 + numbers.below(512)), (9, numbers.below(1000))))
-    else:
-        top = matrix(numbers, (0, 1, 3, 4), n)
-    middle = matrix(numbers, {"cmpr": (4,), "sens": (0, 1, 3, 4)}.get(name, (0, 4, 4, 4)), n, extra=name == "cmpr")
-    inputs = [some_input(numbers, earlier) for _ in range(3)]
+def some_record(numbers, sizes, kind, n, earlier, constants):
+    """A record of this kind: contacts, earlier outputs and coils as a network has them, mostly with power on top."""
+    pointer = kind in (6, 7)
+    top = matrix(numbers, sizes, (3, 4, 4) if pointer and sizes[2] else (4,) if pointer else CLASSES, 1 if pointer else n)
+    if pointer and numbers.below(4) == 0:
+        top = 9, numbers.below(constants)
+    middle = matrix(numbers, sizes, {5: (4,), 7: CLASSES}.get(kind, (0, 4, 4, 4)), n, extra=kind == 5)
+    inputs = [some_input(numbers, sizes, earlier, (0, 1, 1, 2, 3, 4, 5, 6, 7, 8)) for _ in range(3)]
     if numbers.below(4):
         inputs[0] = ALWAYS
-    coils = [numbers.among((0, 1 + numbers.below(2048))) for _ in range(3)]
+    coils = [numbers.among((0, numbers.below(16 * sizes[0] + 1))) for _ in range(3)]
     return record(kind, n, top, middle, inputs, coils)
 
 
 def mix(blocks, scans, seed=1, lengths=(1, 1, 2, 4, 4, 8, 10, 16, 32, 64, 100)):
-    """All kinds in turn over the largest table."""
+    """All kinds in turn over the largest table, of which few words are not 0; pointers start in range."""
     numbers = Numbers(seed)
-    records = [some_record(numbers, 1 + k % 8, numbers.among(lengths), k) for k in range(blocks)]
-    return spell(LIMITS, records, numbers.words(sum(LIMITS)), scans)
+    records = [some_record(numbers, LIMITS, 1 + k % 8, numbers.among(lengths), k, 1000) for k in range(blocks)]
+    image = [numbers.among((0, 0, 0, 0, 0, 0, 0, numbers.below(65536))) for _ in range(sum(LIMITS))]
+    for kind, n, class_, number, *_ in records:
+        if kind in (6, 7) and class_ != 9:
+            image[sum(LIMITS[: CLASSES.index(class_)]) + number - 1] = 1 + numbers.below(16 * n)
+    return spell(LIMITS, records, image, scans)
 
 
 def timed():
@@ -137,35 +141,10 @@ def timed():
 def small(numbers):
     """A small accepted file whose matrices and pointers meet often."""
     sizes = [numbers.below(4), numbers.below(4), numbers.below(6), 3 + numbers.below(12)]
-    holding = sizes[3]
     records = []
     for k in range(numbers.below(9)):
-        kind = 1 + numbers.below(8)
-        n = 1 + numbers.below(holding - 1)
-        classes = [c for c, size in zip((0, 1, 3, 4), sizes) if n <= size]
-        written = [c for c in classes if c in (0, 4)]
-
-        def at(class_, room, length=n):
-            start = numbers.below(room - length + 1)
-            return class_, 16 * start + 1 if class_ <= 1 else start + 1
-
-        area = dict(zip((0, 1, 3, 4), sizes))
-        source = numbers.among(classes)
-        target = numbers.among(written)
-        top, middle = at(source, area[source]), at(target, area[target])
-        if kind == 5:
-            middle = at(4, holding, n + 1)
-        if kind in (6, 7):
-            top = numbers.among((at(4, holding, 1), at(4, holding, 1), (9, numbers.below(16 * n + 3))))
-            middle = at(source, area[source]) if kind == 7 else middle
-        codes = [0, 1, 1] + [2, 3] * (sizes[0] > 0) + [4, 5] * (sizes[1] > 0) + [6, 7, 8] * (k > 0)
-        inputs = []
-        for _ in range(3):
-            code = numbers.among(codes)
-            most = 16 * sizes[0] if code <= 3 else 16 * sizes[1] if code <= 5 else k
-            inputs.append((code, 0 if code <= 1 else 1 + numbers.below(most)))
-        coils = [numbers.below(16 * sizes[0] + 1) for _ in range(3)]
-        records.append(record(kind, n, top, middle, inputs, coils))
+        n = 1 + numbers.below(sizes[3] - 1)
+        records.append(some_record(numbers, sizes, 1 + numbers.below(8), n, k, 16 * n + 3))
     image = [numbers.among((0, 1, 2, 15, 16, 17, 32, 33, 65535, numbers.below(65536))) for _ in range(sum(sizes))]
     return spell(sizes, records, image, 1 + numbers.below(40))
 
@@ -188,8 +167,27 @@ def spoiled(numbers, words):
     return data
 
 
+def edges():
+    """Both sides of the edges that document 01 names."""
+    for kind, n, top, middle in (
+        (1, 100, (4, 1), (4, 1)),
+        (1, 101, (4, 1), (4, 1)),
+        (7, 255, (9, 1), (4, 1)),
+        (7, 256, (9, 1), (4, 1)),
+        (1, 1, (0, 17), (4, 1)),
+        (1, 1, (0, 16), (4, 1)),
+        (7, 255, (9, 999), (4, 1)),
+        (7, 255, (9, 1000), (4, 1)),
+        (5, 100, (4, 1), (4, 200)),
+        (5, 100, (4, 1), (4, 201)),
+    ):
+        yield spell((2, 2, 2, 300), [record(kind, n, top, middle, (ALWAYS, NEVER, NEVER))], [3] * 306, 2)
+
+
 def compared(count=400):
     """Name and bytes of each small file."""
+    for k, words in enumerate(edges()):
+        yield f"edge-{k}", as_bytes(words)
     for seed in range(count):
         numbers = Numbers(1000 + seed)
         words = small(numbers)
@@ -201,16 +199,18 @@ def compared(count=400):
     yield "too-long", as_bytes(mix(128, 1000)) + bytes(100000)
 
 
-def main():
-    if len(sys.argv) != 2:
-        sys.exit(__doc__.splitlines()[0])
-    for part, files in (("timed", ((n, as_bytes(w)) for n, w in timed())), ("compared", compared())):
-        folder = os.path.join(sys.argv[1], part)
-        os.makedirs(folder, exist_ok=True)
+def write(folder):
+    """Writes all files, and gives the names of those that are timed, in order."""
+    parts = {"timed": [(name, as_bytes(words)) for name, words in timed()], "compared": list(compared())}
+    for part, files in parts.items():
+        os.makedirs(os.path.join(folder, part), exist_ok=True)
         for name, data in files:
-            with open(os.path.join(folder, name), "wb") as out:
+            with open(os.path.join(folder, part, name), "wb") as out:
                 out.write(data)
+    return [name for name, _ in parts["timed"]]
 
 
 if __name__ == "__main__":
-    main()
+    if len(sys.argv) != 2:
+        sys.exit(__doc__.splitlines()[0])
+    write(sys.argv[1])
