@@ -3,6 +3,7 @@ use crate::block::Block;
 use crate::block::Input;
 use crate::block::Node;
 use crate::rules::Classes;
+use crate::rules::Rule;
 use crate::rules::allows;
 use crate::rules::rule_of;
 use crate::sizes::Sizes;
@@ -11,6 +12,7 @@ use bits::Verdict;
 ghost use mathlib.Core.Path.{_≡_};
 ghost use Prim.Native.Nat.{_+_, _<_};
 ghost use Rattle.network.specs.Fault.{counted, up-to, class-fault, number-fault, input-fault, top-words, word-fault};
+ghost use Rattle.network.specs.Rules.{rule};
 ghost use Rattle.network.specs.Check.{judged};
 
 const MOST_CONSTANT: usize = 999;
@@ -87,11 +89,12 @@ fn top_words(pointer: bool, n: u16) -> u16
     n
 }
 
-// The refusal that word q of a record earns when it is reached, q counted from 0, or 0.
-fn word_fault(sizes: Sizes, earlier: usize, block: Block, q: usize) -> u16
+// The refusal that word q of a record earns when it is reached, q counted from 0, or 0. The row is that of the record's kind:
+// it is found once for the 15 words.
+fn word_fault(row: Rule, sizes: Sizes, earlier: usize, block: Block, q: usize) -> u16
+    requires { ⌜ row ≡ rule (block .kind) ⌝ }
     ensures { λ r. ⌜ r ≡ word-fault sizes earlier block q ⌝ }
 {
-    let row = rule_of(block.kind);
     let inputs = block.inputs;
     let coils = block.coils;
     match q {
@@ -120,6 +123,7 @@ pub(crate) fn judged(sizes: Sizes, earlier: usize, block: Block, at: usize, size
     requires { ⌜ at < 990000 ⌝ }
     ensures { λ r. ⌜ r ≡ judged sizes earlier block at size ⌝ }
 {
+    let row = rule_of(block.kind);
     let mut q = 0;
     while q < 15 {
         let i = at + q;
@@ -127,7 +131,7 @@ pub(crate) fn judged(sizes: Sizes, earlier: usize, block: Block, at: usize, size
         if size <= i {
             return Verdict { number: 1, place };
         }
-        let number = word_fault(sizes, earlier, block, q);
+        let number = word_fault(row, sizes, earlier, block, q);
         if number != 0 {
             return Verdict { number, place };
         }

@@ -10,17 +10,20 @@ use Rattle.network.proofs.fault.judged.Statement.{statement}
 use Rattle.network.proofs.fault.judged.Tie as tie
 
 abbrev Inv-loop : tie.InvT-loop
-Inv-loop sizes earlier block at size q₀ q = Reached (λ i. word-fault sizes earlier block (i - at)) size at 15 q
+Inv-loop sizes earlier block at size row q₀ q = Reached (λ i. word-fault sizes earlier block (i - at)) size at 15 q
 
 abbrev μ-loop : tie.MeasureT-loop
-μ-loop sizes earlier block at size q₀ q = 15 - q
+μ-loop sizes earlier block at size row q₀ q = 15 - q
 
 -- the word that was judged is word q of the record
-here : (c : tie.After-word-fault Inv-loop μ-loop) → let x = c .before .before .before .before .args in
+here : (c : tie.After-word-fault Inv-loop μ-loop) → let x = c .before .before .before .before .before .args in
     c .word-fault .result ≡ word-fault (x .sizes) (x .earlier) (x .block) (x .at + c .before .before .before .loop .q - x .at)
 here c =
-    let x = c .before .before .before .before .args in
+    let x = c .before .before .before .before .before .args in
     c .word-fault .ensures ∙ ap (word-fault (x .sizes) (x .earlier) (x .block)) (sym (add-sub-cancel-left (x .at) (c .before .before .before .loop .q)))
+
+rule-of-requires : tie.Need-rule-of-requires Inv-loop μ-loop
+rule-of-requires c κs = search needs
 
 loop-holds : tie.Need-loop-holds Inv-loop μ-loop
 loop-holds c = begun _ _ _ _
@@ -35,7 +38,7 @@ returns : tie.Need-returns Inv-loop μ-loop
 returns c = stop-missing (c .before .before .loop .inv) (c .before .loop-test .taken) (c .if1 .taken)
 
 word-fault-requires : tie.Need-word-fault-requires Inv-loop μ-loop
-word-fault-requires c κs = search needs
+word-fault-requires c κs = c .before .before .before .rule-of .ensures
 
 returns-2 : tie.Need-returns-2 Inv-loop μ-loop
 returns-2 c = stop-fault (c .before .before .before .before .loop .inv) (c .before .before .before .loop-test .taken) (c .before .before .if1 .left) (here (c .before)) (c .if2 .taken)
@@ -58,6 +61,7 @@ judged-spec =
     (tie.spec
     Inv-loop
     μ-loop
+    rule-of-requires
     loop-holds
     add-i
     add-place
