@@ -1,8 +1,10 @@
 -- The laws of the definitions.
 pub mod Accepted
+pub mod Calls
 pub mod Determined
 pub mod Examples
 pub mod Faults
+pub mod Held
 pub mod Kept
 pub mod KindFacts
 pub mod Networks

@@ -25,6 +25,7 @@ pub use part::matrix;
 pub use part::start;
 pub use part::total;
 pub use reader::Read;
+pub use reader::Reader;
 pub use reader::record_at;
 pub use reader::record_of;
 pub use sizes::Sizes;

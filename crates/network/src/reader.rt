@@ -5,7 +5,7 @@ use crate::checker::Opened;
 use crate::checker::opening;
 use bits::Verdict;
 ghost use mathlib.Core.Path.{_≡_};
-ghost use Rattle.network.specs.Check.{read-at, read};
+ghost use Rattle.network.specs.Check.{opened, read-at, read};
 
 // A record, or a refusal.
 pub enum Read {
@@ -38,9 +38,41 @@ pub fn record_at(words: &[u16], o: Opened, k: usize) -> Read
     Read::Record(block_at(words, 6 + 15 * (k - 1)))
 }
 
+// A reader over the lent words, with what opening them found.
+pub struct Reader<'a> {
+    words: &'a [u16],
+    found: Opened,
+}
+
+impl<'a> Reader<'a> {
+    // Checks all the words.
+    pub fn open(words: &'a [u16]) -> Reader<'a>
+        ensures { λ r. ⌜ (r .words ≡ words .entry) × (r .found ≡ opened (now (words .entry))) ⌝ }
+    {
+        Reader {
+            words,
+            found: opening(words),
+        }
+    }
+
+    // What the opening found: the checker's verdict, with the sizes and the count.
+    pub fn opened(self) -> Opened
+        ensures { λ r. ⌜ r ≡ self .entry .found ⌝ }
+    {
+        self.found
+    }
+
+    // The record of block k: the checker's refusal, 12, or what the words spell.
+    pub fn record(self, k: usize) -> Read
+        ensures { λ r. ⌜ r ≡ read-at (now (self .entry .words)) (self .entry .found) k ⌝ }
+    {
+        record_at(self.words, self.found, k)
+    }
+}
+
 // The record of block k of these words, which are checked first.
 pub fn record_of(words: &[u16], k: usize) -> Read
     ensures { λ r. ⌜ r ≡ read (now (words .entry)) k ⌝ }
 {
-    record_at(words, opening(words), k)
+    Reader::open(words).record(k)
 }
