@@ -3,6 +3,7 @@ use mathlib.Core.Path.{_≡_, refl, ap, ap₂, _∙_}
 use mathlib.Core.Bool.{Bool, true, false, cond, _&&_}
 use mathlib.Core.List.{List}
 use Prim.Native.Nat.{ℕ, _-_, _≤_, _<_}
+use denote.Ref.{RefT, now}
 use borrow.Author.Tests.{le-leb, lt-leb, eq-eqb, ne-eqb}
 use lib.Dec.{leb, eqb}
 use lib.ListN.{length}
@@ -13,7 +14,8 @@ use Rattle.network.specs.declared.checker.Opened.{Opened}
 use Rattle.network.specs.declared.reader.Read.the-variants.{Record, Refused}
 use Rattle.network.specs.Table.{allowed}
 use Rattle.network.specs.Record.{block-at, spelled}
-use Rattle.network.specs.Check.{verdict, done, then, judged, block-start, most-blocks, read-at, write-verdict, write-buffer}
+use Rattle.network.specs.Check.{verdict, done, then, judged, block-start, most-blocks, opened, read-at, write-verdict, write-buffer}
+use Rattle.network.specs.Reader.{GivesRecord, GivesRefusal}
 use Rattle.network.proofs.Walk.{then-first, then-next}
 
 -- a number from 1 to most
@@ -41,6 +43,13 @@ module _ (ws : List ℕ) (o : Opened) (k : ℕ) where
 
   pub read-record : o .verdict .number ≡ 0 → 1 ≤ k → k ≤ o .count → read-at ws o k ≡ Record (block-at ws (block-start (k - 1)))
   read-record e l u = by-tests true true (eq-eqb (o .verdict .number) 0 e) (in-count (o .count) k l u)
+
+-- ---- a reader that was opened on lent words
+pub gives-record : GivesRecord
+gives-record lent reader k on = ap₂ (λ (s : RefT (List ℕ)) (o : Opened). read-at (now s) o k) (on .holds) (on .knows)
+
+pub gives-refusal : GivesRefusal
+gives-refusal lent reader k on h = gives-record lent reader k on ∙ read-refused (now lent) (opened (now lent)) k h
 
 -- ---- the writer
 module _ (z : Sizes) (k : ℕ) (b : Block) (l : List ℕ) where

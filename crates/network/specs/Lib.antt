@@ -4,6 +4,7 @@ pub mod Rules
 pub mod Record
 pub mod Fault
 pub mod Check
+pub mod Reader
 pub mod Sound
 pub mod Kinds
 pub mod RoundTrip

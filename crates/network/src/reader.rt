@@ -5,7 +5,8 @@ use crate::checker::Opened;
 use crate::checker::opening;
 use bits::Verdict;
 ghost use mathlib.Core.Path.{_≡_};
-ghost use Rattle.network.specs.Check.{opened, read-at, read};
+ghost use Rattle.network.specs.Check.{read-at, read};
+ghost use Rattle.network.specs.Reader.{OpenedOn};
 
 // A record, or a refusal.
 pub enum Read {
@@ -47,7 +48,7 @@ pub struct Reader<'a> {
 impl<'a> Reader<'a> {
     // Checks all the words.
     pub fn open(words: &'a [u16]) -> Reader<'a>
-        ensures { λ r. ⌜ (r .words ≡ words .entry) × (r .found ≡ opened (now (words .entry))) ⌝ }
+        ensures { λ r. ⌜ OpenedOn (words .entry) r ⌝ }
     {
         Reader {
             words,

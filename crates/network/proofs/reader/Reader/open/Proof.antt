@@ -68,7 +68,7 @@ module _ {M : Type 1} (𝓤 : URA M) (H : Heap 𝓤) (A : Atoms 𝓤) (W : Given
   exits : (o : Opened) (u : Val) → o ≡ opened (now s) → ent 𝓤 (⋆ 𝓤 H A (‵ (O.the-row .own o (u ∷ [])) ∷ (‵ (flft κ q) ⊛ ‵ ftrue) ∷ ‵ (Lent κ s) ∷ [])) (Post (pair (made o) u))
   exits o u e =
       qed W (‵ (O.the-row .own o (u ∷ [])) ∷ (‵ (flft κ q) ⊛ ‵ ftrue) ∷ ‵ (Lent κ s) ∷ []) ∵
-      suffices ! _ (ends-at 𝓤 H A opener.ended stayed (opener.clauses 𝓤 H A mem run) W (((κ, tt), (q, tt), tt, (s, tt), (val s ∷ [], tt)), tt) (pair (made o) u) (made o) (tt, tt) (tt, tt)) $ says ! (refl, e) $
+      suffices ! _ (ends-at 𝓤 H A opener.ended stayed (opener.clauses 𝓤 H A mem run) W (((κ, tt), (q, tt), tt, (s, tt), (val s ∷ [], tt)), tt) (pair (made o) u) (made o) (tt, tt) (tt, tt)) $ says ! (record { holds = refl; knows = e }) $
       move ! (1 ∷ []) $ frame ! $ move ! (1 ∷ []) $ use1 W (‵ (Lent κ s) ⊛ ‵ (Lent κ s)) (twice 𝓤 H A W κ s) $ split ! $ nothing ! $ move ! (1 ∷ 0 ∷ []) $ fjoin ! $ frame ! $
       -- [what the words own; what the opening owns]
       nothing ! $ move ! (2 ∷ 0 ∷ []) $ fjoin ! $ move ! (1 ∷ 0 ∷ []) $ fjoin ! $ by ! (together 𝓤 H A W κ (made o) u)
