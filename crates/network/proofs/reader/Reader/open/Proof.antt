@@ -10,14 +10,14 @@ use base.Logic.{SProp, ent, id⊢}
 use base.Fml.{Lft, Share, ftrue, flft}
 use prog.Memory.{Memory}
 use prog.Routine.{Routine}
-use prog.Wp.{Heap, Calls, Loops, WpFn}
+use prog.Wp.{Heap, Tables, WpFn}
 use ghost.Atoms.{Atoms}
 use contract.Monad.{Fun}
 use contract.Running.{givenOf, tables, tablesOf}
 use types.Kit.{Given, ‵, raw, _⊛_, ⋆, _$_, _∵_, !, qed, by, move, use1, split, fjoin, suffices, frame}
 use types.Part.{agg}
 use types.Run.{look, init, forget, stop, from, load, and-then, no-more, assigns, land, returns, enter, alloc1, alloc0, params1, pass1, pass0, free1, free0}
-use sound.WpLaws.{FmC, fmOf}
+use sound.WpLaws.{fmOf}
 use denote.Laws.{Is}
 use denote.Builtin.{u16}
 use denote.Ref.{RefT, now}
@@ -29,7 +29,7 @@ use denote.Triple.Statement.{Contract, Triple}
 use denote.Triple.Bound.{Bound}
 use denote.Triple.Entry.{onEntry}
 use denote.Triple.Spec.{tripleOf}
-use denote.Triple.Table.{entered, cited}
+use denote.Triple.Table.{cited}
 use denote.Triple.Walked.{says, Stays, stay-none-slice, walkOf, goes-none-slice, ends-at}
 use denote.Exit.{yes}
 use Rattle.network.specs.Check.{opened}
@@ -37,7 +37,7 @@ use Rattle.network.specs.declared.checker.Opened.{Opened}
 use Rattle.network.specs.declared.reader.Reader.{Reader}
 use Rattle.network.proofs.checker.Opened as O
 use Rattle.network.proofs.checker.Opened.Laws as O′
-use Rattle.network.proofs.Calls.{answers, meets}
+use Rattle.network.proofs.Calls.{answers, concludes}
 use Rattle.network.proofs.Held.{Words, val, Lent, Asked, twice, lends, pair, together, pair-typed}
 use Rattle.network.proofs.checker.opening as opening
 use Rattle.network.proofs.checker.opening.Symbol as opening-def
@@ -73,13 +73,13 @@ module _ {M : Type 1} (𝓤 : URA M) (H : Heap 𝓤) (A : Atoms 𝓤) (W : Given
       -- [what the words own; what the opening owns]
       nothing ! $ move ! (2 ∷ 0 ∷ []) $ fjoin ! $ move ! (1 ∷ 0 ∷ []) $ fjoin ! $ by ! (together 𝓤 H A W κ (made o) u)
 
-  module _ (C : Calls 𝓤 H) (Λ : Loops 𝓤 H) (fm : FmC 𝓤 H (W .laws) C) (known : Triple 𝓤 (C #opening) (Opening 𝓤 H A mem run)) where
-    walk : Is (Words κ) s (val s ∷ []) → ent 𝓤 (onEntry 𝓤 H A opener.signature (κ, tt) (q, tt) (s, tt) (val s ∷ [], tt)) (WpFn 𝓤 H C Λ code.function (val s ∷ []) Post)
+  module _ (𝓣 : Tables 𝓤 H) (known : Triple 𝓤 (𝓣 .C #opening) (Opening 𝓤 H A mem run)) where
+    walk : Is (Words κ) s (val s ∷ []) → ent 𝓤 (onEntry 𝓤 H A opener.signature (κ, tt) (q, tt) (s, tt) (val s ∷ [], tt)) (WpFn 𝓤 H (𝓣 .C) (𝓣 .Λ) code.function (val s ∷ []) Post)
     walk p =
-        qed W (raw (onEntry 𝓤 H A opener.signature (κ, tt) (q, tt) (s, tt) (val s ∷ [], tt)) ∷ []) ∵ enter ! C Λ code.function (val s ∷ []) _ $
+        qed W (raw (onEntry 𝓤 H A opener.signature (κ, tt) (q, tt) (s, tt) (val s ∷ [], tt)) ∷ []) ∵ enter ! (𝓣 .C) (𝓣 .Λ) code.function (val s ∷ []) _ $
         alloc1 ! (λ l₀. alloc1 ! (λ l₁. alloc1 ! (λ l₂. alloc0 ! $ params1 ! $ pass1 ! (init ! 2 refl (shr-slice-lawful 𝓤 H A W (named 0) κ u16 .typed s (val s ∷ []) p .0)) $ pass0 ! $
         move ! (6 ∷ []) $ use1 W (raw (Asked 𝓤 H A W κ s q) ⊛ ‵ (Lent κ s)) (lends 𝓤 H A W κ s q ftrue) $ split ! $
-        answers ! fm opening.ended (opening.clauses 𝓤 H A mem run) known to tt (λ o. o ≡ opened (now s)) (λ o ws. id⊢ 𝓤 _) (and-then ! (load ! (from ! (stop !)) (look ! 4 refl)) (no-more !)) (λ u o e is.
+        answers ! (fmOf 𝓤 H (W .laws) 𝓣) opening.ended (opening.clauses 𝓤 H A mem run) known to tt (λ o. o ≡ opened (now s)) (λ o ws. id⊢ 𝓤 _) (and-then ! (load ! (from ! (stop !)) (look ! 4 refl)) (no-more !)) (λ u o e is.
         -- [the opening; the token; what the words own; room for _2; …; _1; …; room for _0; …]
         land ! (from ! (stop !)) (init ! 3 refl (LL.lawful O.the-type O′.the-laws 𝓤 H A W .typed o _ is .0)) $
         assigns ! (agg ! (and-then ! (load ! (from ! (stop !)) (look ! 5 refl)) (and-then ! (load ! (from ! (stop !)) (look ! 3 refl)) (no-more !)))) (from ! (stop !))
@@ -89,12 +89,8 @@ module _ {M : Type 1} (𝓤 : URA M) (H : Heap 𝓤) (A : Atoms 𝓤) (W : Given
 pub open-spec : {M : Type 1} → stated.statement M
 unfolding code.routine tablesOf
 open-spec 𝓤 H 𝓜 𝓖 𝓡 =
-    entered 𝓤 H (tripleOf 𝓤 H (𝓖 .A) opener.signature (opener.spec 𝓤 H (𝓖 .A) (𝓜 .mem) (𝓡 .run)))
-    (tables 𝓤 H 𝓜 𝓡 code.env .C) (tables 𝓤 H 𝓜 𝓡 code.env .Λ) #open code.function (code.unfolded 𝓤 H 𝓜 𝓡)
-    (meets 𝓤 H (𝓖 .A) (givenOf 𝓤 H 𝓜 𝓖) opener.ended stayed (goes-none-slice 𝓤 H (𝓖 .A) (givenOf 𝓤 H 𝓜 𝓖) 1 (0 ∷ []) tt (plain (λ _. u16)) yes, tt)
-    (opener.clauses 𝓤 H (𝓖 .A) (𝓜 .mem) (𝓡 .run)) (tablesOf 𝓤 H 𝓜 (tables 𝓤 H 𝓜 𝓡 code.env)) code.function
-    (λ κs. (slice-vals, tt)) (λ κs. (shr-slice-tells (named 0) (κs .0) u16, tt))
-    (λ κs qs bounds a g are. walk 𝓤 H (𝓖 .A) (givenOf 𝓤 H 𝓜 𝓖) (𝓜 .mem) (𝓡 .run) (κs .0) (qs .0) (a .0) (tables 𝓤 H 𝓜 𝓡 code.env .C) (tables 𝓤 H 𝓜 𝓡 code.env .Λ)
-    (fmOf 𝓤 H (givenOf 𝓤 H 𝓜 𝓖 .laws) (tablesOf 𝓤 H 𝓜 (tables 𝓤 H 𝓜 𝓡 code.env)))
+    concludes 𝓤 H 𝓜 𝓖 𝓡 opener.ended stayed (goes-none-slice 𝓤 H (𝓖 .A) (givenOf 𝓤 H 𝓜 𝓖) 1 (0 ∷ []) tt (plain (λ _. u16)) yes, tt)
+    (opener.clauses 𝓤 H (𝓖 .A) (𝓜 .mem) (𝓡 .run)) code.env #open code.function (code.unfolded 𝓤 H 𝓜 𝓡) (λ κs. (slice-vals, tt)) (λ κs. (shr-slice-tells (named 0) (κs .0) u16, tt))
+    (λ κs qs bounds a g are. walk 𝓤 H (𝓖 .A) (givenOf 𝓤 H 𝓜 𝓖) (𝓜 .mem) (𝓡 .run) (κs .0) (qs .0) (a .0) (tablesOf 𝓤 H 𝓜 (tables 𝓤 H 𝓜 𝓡 code.env))
     (cited 𝓤 H (Opening 𝓤 H (𝓖 .A) (𝓜 .mem) (𝓡 .run)) 𝓜 𝓡 code.env #opening opening-def.routine code.calls-network·checker·opening (opening-thm.met 𝓤 H 𝓜 𝓖 𝓡))
-    (are .0)))
+    (are .0))

@@ -9,7 +9,7 @@ use base.Logic.{SProp, ent}
 use base.Fml.{Lft, Share, ftrue, flft}
 use prog.Memory.{Memory}
 use prog.Routine.{Routine}
-use prog.Wp.{Heap, Calls, Loops, WpFn}
+use prog.Wp.{Heap, Tables, WpFn}
 use ghost.Atoms.{Atoms}
 use contract.Monad.{Fun}
 use contract.Running.{givenOf, tables, tablesOf}
@@ -19,14 +19,12 @@ use types.Run.{look, init, forget, stop, fld, from, load, of-opd, assigns, retur
 use denote.RattleType.{owns}
 use denote.Signature.{namedLft}
 use denote.Triple.Entry.{onEntry}
-use denote.Triple.Spec.{tripleOf}
-use denote.Triple.Table.{entered}
 use denote.Triple.Walked.{says, Stays, stay-none, walkOf, goes-none, ends-at}
 use denote.Exit.{yes}
 use Rattle.network.specs.declared.reader.Reader.{Reader}
 use Rattle.network.proofs.checker.Opened.Laws as O′
 use Rattle.network.proofs.reader.Reader.Laws as T′
-use Rattle.network.proofs.Calls.{meets}
+use Rattle.network.proofs.Calls.{concludes}
 use Rattle.network.proofs.Held.{Held, spell, tell, typed, Own, Parts, apart}
 use Rattle.network.proofs.reader.Reader.opened.Key.{name as #opened}
 use Rattle.network.proofs.reader.Reader.opened as opened
@@ -51,10 +49,10 @@ module _ {M : Type 1} (𝓤 : URA M) (H : Heap 𝓤) (A : Atoms 𝓤) (W : Given
       -- [what the words and the opening own]
       fsplit ! $ drop ! $ fsplit ! $ move ! (1 ∷ []) $ drop ! $ done !
 
-  module _ (C : Calls 𝓤 H) (Λ : Loops 𝓤 H) where
-    walk : Holds (hasTy (T′.mir (named 0)) mach) × WT mach → ent 𝓤 (onEntry 𝓤 H A opened.signature (κ, tt) (q, tt) (d, tt) (mach ∷ [], tt)) (WpFn 𝓤 H C Λ code.function (mach ∷ []) Post)
+  module _ (𝓣 : Tables 𝓤 H) where
+    walk : Holds (hasTy (T′.mir (named 0)) mach) × WT mach → ent 𝓤 (onEntry 𝓤 H A opened.signature (κ, tt) (q, tt) (d, tt) (mach ∷ [], tt)) (WpFn 𝓤 H (𝓣 .C) (𝓣 .Λ) code.function (mach ∷ []) Post)
     walk wt =
-        qed W ((‵ (flft κ q) ⊛ ‵ ftrue) ∷ ‵ (owns (Held (κ, tt) ∷ []) (d, tt) (mach ∷ [], tt)) ∷ []) ∵ enter ! C Λ code.function (mach ∷ []) _ $
+        qed W ((‵ (flft κ q) ⊛ ‵ ftrue) ∷ ‵ (owns (Held (κ, tt) ∷ []) (d, tt) (mach ∷ [], tt)) ∷ []) ∵ enter ! (𝓣 .C) (𝓣 .Λ) code.function (mach ∷ []) _ $
         alloc1 ! (λ l₀. alloc1 ! (λ l₁. alloc0 ! $ params1 ! $ pass1 ! (init ! 0 refl wt) $ pass0 ! $
         assigns ! (of-opd ! (load ! (from ! (fld ! refl (stop !))) (look-in ! 0 (sub ! 1 refl (whole !))))) (from ! (stop !)) (init ! 2 refl (tt, wt .1 .1 .0)) $
         returns ! (look ! 2 refl) $ forget ! 0 refl $ forget ! 2 refl $ move ! (2 ∷ 3 ∷ []) $ free1 ! $ free1 ! $ free0 ! $ by ! exits))
@@ -62,9 +60,7 @@ module _ {M : Type 1} (𝓤 : URA M) (H : Heap 𝓤) (A : Atoms 𝓤) (W : Given
 pub opened-spec : {M : Type 1} → stated.statement M
 unfolding code.routine tablesOf
 opened-spec 𝓤 H 𝓜 𝓖 𝓡 =
-    entered 𝓤 H (tripleOf 𝓤 H (𝓖 .A) opened.signature (opened.spec 𝓤 H (𝓖 .A) (𝓜 .mem) (𝓡 .run)))
-    (tables 𝓤 H 𝓜 𝓡 code.env .C) (tables 𝓤 H 𝓜 𝓡 code.env .Λ) #opened code.function (code.unfolded 𝓤 H 𝓜 𝓡)
-    (meets 𝓤 H (𝓖 .A) (givenOf 𝓤 H 𝓜 𝓖) opened.ended stayed (goes-none 𝓤 H (𝓖 .A) (givenOf 𝓤 H 𝓜 𝓖) 1 Held yes (λ κs x f. refl), tt)
-    (opened.clauses 𝓤 H (𝓖 .A) (𝓜 .mem) (𝓡 .run)) (tablesOf 𝓤 H 𝓜 (tables 𝓤 H 𝓜 𝓡 code.env)) code.function
-    (λ κs. (spell κs, tt)) (λ κs. (tell κs, tt))
-    (λ κs qs bounds a g are. walk 𝓤 H (𝓖 .A) (givenOf 𝓤 H 𝓜 𝓖) (𝓜 .mem) (𝓡 .run) (κs .0) (qs .0) (a .0) (tables 𝓤 H 𝓜 𝓡 code.env .C) (tables 𝓤 H 𝓜 𝓡 code.env .Λ) (typed 𝓤 H (𝓖 .A) (givenOf 𝓤 H 𝓜 𝓖) (namedLft 1 0 tt κs) (a .0) _ (are .0))))
+    concludes 𝓤 H 𝓜 𝓖 𝓡 opened.ended stayed (goes-none 𝓤 H (𝓖 .A) (givenOf 𝓤 H 𝓜 𝓖) 1 Held yes (λ κs x f. refl), tt)
+    (opened.clauses 𝓤 H (𝓖 .A) (𝓜 .mem) (𝓡 .run)) code.env #opened code.function (code.unfolded 𝓤 H 𝓜 𝓡) (λ κs. (spell κs, tt)) (λ κs. (tell κs, tt))
+    (λ κs qs bounds a g are. walk 𝓤 H (𝓖 .A) (givenOf 𝓤 H 𝓜 𝓖) (𝓜 .mem) (𝓡 .run) (κs .0) (qs .0) (a .0) (tablesOf 𝓤 H 𝓜 (tables 𝓤 H 𝓜 𝓡 code.env))
+    (typed 𝓤 H (𝓖 .A) (givenOf 𝓤 H 𝓜 𝓖) (namedLft 1 0 tt κs) (a .0) _ (are .0)))

@@ -11,14 +11,14 @@ use base.Logic.{SProp, ent, sep, id⊢}
 use base.Fml.{Lft, Share, ftrue, flft}
 use prog.Memory.{Memory}
 use prog.Routine.{Routine}
-use prog.Wp.{Heap, Calls, Loops, WpFn}
+use prog.Wp.{Heap, Tables, WpFn}
 use ghost.Atoms.{Atoms, sem}
 use contract.Monad.{Fun}
 use contract.Running.{givenOf, tables, tablesOf}
 use types.Kit.{Given, ‵, raw, _⊛_, ⋆, _$_, _∵_, !, qed, by, move, drop, use1, use2, split, join, fsplit, fjoin, suffices, frame, done}
 use types.Part.{whole, sub, look-in}
 use types.Run.{look, init, forget, stop, fld, from, load, of-opd, and-then, no-more, assigns, land, returns, enter, alloc1, alloc0, params1, pass1, pass0, free1, free0}
-use sound.WpLaws.{FmC, fmOf}
+use sound.WpLaws.{fmOf}
 use denote.RattleType.{owns}
 use denote.Laws.{Is}
 use denote.Plain.{uint-vals, uint-tells, uint-makes}
@@ -31,7 +31,7 @@ use denote.Triple.Statement.{Contract, Triple}
 use denote.Triple.Bound.{Bound}
 use denote.Triple.Entry.{Vals, onEntry}
 use denote.Triple.Spec.{tripleOf}
-use denote.Triple.Table.{entered, cited}
+use denote.Triple.Table.{cited}
 use denote.Triple.Walked.{says, Stays, stay-none, walkOf, goes-none, ends-at}
 use denote.Exit.{yes}
 use Rattle.network.specs.Check.{read-at}
@@ -42,7 +42,7 @@ use Rattle.network.proofs.checker.Opened.Laws as O′
 use Rattle.network.proofs.reader.Read as R
 use Rattle.network.proofs.reader.Read.Laws as R′
 use Rattle.network.proofs.reader.Reader.Laws as T′
-use Rattle.network.proofs.Calls.{answers, meets}
+use Rattle.network.proofs.Calls.{answers, concludes}
 use Rattle.network.proofs.Held.{Held, spell, tell, typed, Words, val, Own, Parts, apart}
 use Rattle.network.proofs.reader.record_at as record-at
 use Rattle.network.proofs.reader.record_at.Symbol as record-at-def
@@ -96,15 +96,15 @@ module _ {M : Type 1} (𝓤 : URA M) (H : Heap 𝓤) (A : Atoms 𝓤) (W : Given
       suffices ! _ (ends-at 𝓤 H A block.ended stayed (block.clauses 𝓤 H A mem run) W (((κ, tt), (q, tt), tt, (d, (k, tt)), at), tt) u r (tt, (tt, tt)) (tt, (tt, tt))) $ says ! e $
       move ! (1 ∷ []) $ frame ! $ nothing ! $ owned ! usize (Is usize) (uint-makes 𝓤 H A W w64) k _ (refl, fits) $ fjoin ! $ move ! (2 ∷ 0 ∷ []) $ fjoin ! $ frame ! $ done !
 
-  module _ (C : Calls 𝓤 H) (Λ : Loops 𝓤 H) (fm : FmC 𝓤 H (W .laws) C) (known : Triple 𝓤 (C #record-at) (RecordAt 𝓤 H A mem run)) where
-    walk : Holds (hasTy (T′.mir (named 0)) mach) × WT mach → ent 𝓤 (onEntry 𝓤 H A block.signature (κ, tt) (q, tt) (d, (k, tt)) at) (WpFn 𝓤 H C Λ code.function (mach ∷ vint w64 k ∷ []) Post)
+  module _ (𝓣 : Tables 𝓤 H) (known : Triple 𝓤 (𝓣 .C #record-at) (RecordAt 𝓤 H A mem run)) where
+    walk : Holds (hasTy (T′.mir (named 0)) mach) × WT mach → ent 𝓤 (onEntry 𝓤 H A block.signature (κ, tt) (q, tt) (d, (k, tt)) at) (WpFn 𝓤 H (𝓣 .C) (𝓣 .Λ) code.function (mach ∷ vint w64 k ∷ []) Post)
     walk wt =
-        qed W (raw (onEntry 𝓤 H A block.signature (κ, tt) (q, tt) (d, (k, tt)) at) ∷ []) ∵ enter ! C Λ code.function (mach ∷ vint w64 k ∷ []) _ $
+        qed W (raw (onEntry 𝓤 H A block.signature (κ, tt) (q, tt) (d, (k, tt)) at) ∷ []) ∵ enter ! (𝓣 .C) (𝓣 .Λ) code.function (mach ∷ vint w64 k ∷ []) _ $
         alloc1 ! (λ l₀. alloc1 ! (λ l₁. alloc1 ! (λ l₂. alloc1 ! (λ l₃. alloc1 ! (λ l₄. alloc0 ! $ params1 ! $ pass1 ! (init ! 6 refl wt) $ pass1 ! (init ! 4 refl (tt, record { fits = fits })) $ pass0 ! $
         assigns ! (of-opd ! (load ! (from ! (fld ! refl (stop !))) (look-in ! 6 (sub ! 0 refl (whole !))))) (from ! (stop !)) (init ! 2 refl (tt, wt .1 .0)) $
         assigns ! (of-opd ! (load ! (from ! (fld ! refl (stop !))) (look-in ! 6 (sub ! 1 refl (whole !))))) (from ! (stop !)) (init ! 0 refl (tt, wt .1 .1 .0)) $
         move ! (10 ∷ []) $ use1 W (raw (RecordAt 𝓤 H A mem run .pre (to, tt)) ⊛ ‵ (Own κ d)) goes $ split ! $
-        answers ! fm record-at.ended (record-at.clauses 𝓤 H A mem run) known to tt (λ r. r ≡ found) (λ r ws. id⊢ 𝓤 _)
+        answers ! (fmOf 𝓤 H (W .laws) 𝓣) record-at.ended (record-at.clauses 𝓤 H A mem run) known to tt (λ r. r ≡ found) (λ r ws. id⊢ 𝓤 _)
         (and-then ! (load ! (from ! (stop !)) (look ! 4 refl)) (and-then ! (load ! (from ! (stop !)) (look ! 2 refl)) (and-then ! (load ! (from ! (stop !)) (look ! 6 refl)) (no-more !)))) (λ u r e is.
         -- [the result; the token; what the reader owns; _4; …; _3; …; _2; …; _1; …; room for _0; …]
         land ! (from ! (stop !)) (init ! 11 refl (EL.lawful R.the-type R′.the-laws 𝓤 H A W tt .typed r _ is .0)) $
@@ -114,12 +114,8 @@ module _ {M : Type 1} (𝓤 : URA M) (H : Heap 𝓤) (A : Atoms 𝓤) (W : Given
 pub record-spec : {M : Type 1} → stated.statement M
 unfolding code.routine tablesOf
 record-spec 𝓤 H 𝓜 𝓖 𝓡 =
-    entered 𝓤 H (tripleOf 𝓤 H (𝓖 .A) block.signature (block.spec 𝓤 H (𝓖 .A) (𝓜 .mem) (𝓡 .run)))
-    (tables 𝓤 H 𝓜 𝓡 code.env .C) (tables 𝓤 H 𝓜 𝓡 code.env .Λ) #record code.function (code.unfolded 𝓤 H 𝓜 𝓡)
-    (meets 𝓤 H (𝓖 .A) (givenOf 𝓤 H 𝓜 𝓖) block.ended stayed (goes-none 𝓤 H (𝓖 .A) (givenOf 𝓤 H 𝓜 𝓖) 1 Held yes (λ κs x f. refl), (goes-none 𝓤 H (𝓖 .A) (givenOf 𝓤 H 𝓜 𝓖) 1 (λ _. usize) yes (λ κs x f. refl), tt))
-    (block.clauses 𝓤 H (𝓖 .A) (𝓜 .mem) (𝓡 .run)) (tablesOf 𝓤 H 𝓜 (tables 𝓤 H 𝓜 𝓡 code.env)) code.function
-    (λ κs. (spell κs, (uint-vals w64, tt))) (λ κs. (tell κs, (uint-tells w64, tt)))
-    (λ κs qs bounds a g are. walk 𝓤 H (𝓖 .A) (givenOf 𝓤 H 𝓜 𝓖) (𝓜 .mem) (𝓡 .run) (κs .0) (qs .0) (a .0) (a .1 .0) (are .1 .0 .1) (tables 𝓤 H 𝓜 𝓡 code.env .C) (tables 𝓤 H 𝓜 𝓡 code.env .Λ)
-    (fmOf 𝓤 H (givenOf 𝓤 H 𝓜 𝓖 .laws) (tablesOf 𝓤 H 𝓜 (tables 𝓤 H 𝓜 𝓡 code.env)))
+    concludes 𝓤 H 𝓜 𝓖 𝓡 block.ended stayed (goes-none 𝓤 H (𝓖 .A) (givenOf 𝓤 H 𝓜 𝓖) 1 Held yes (λ κs x f. refl), (goes-none 𝓤 H (𝓖 .A) (givenOf 𝓤 H 𝓜 𝓖) 1 (λ _. usize) yes (λ κs x f. refl), tt))
+    (block.clauses 𝓤 H (𝓖 .A) (𝓜 .mem) (𝓡 .run)) code.env #record code.function (code.unfolded 𝓤 H 𝓜 𝓡) (λ κs. (spell κs, (uint-vals w64, tt))) (λ κs. (tell κs, (uint-tells w64, tt)))
+    (λ κs qs bounds a g are. walk 𝓤 H (𝓖 .A) (givenOf 𝓤 H 𝓜 𝓖) (𝓜 .mem) (𝓡 .run) (κs .0) (qs .0) (a .0) (a .1 .0) (are .1 .0 .1) (tablesOf 𝓤 H 𝓜 (tables 𝓤 H 𝓜 𝓡 code.env))
     (cited 𝓤 H (RecordAt 𝓤 H (𝓖 .A) (𝓜 .mem) (𝓡 .run)) 𝓜 𝓡 code.env #record-at record-at-def.routine code.calls-network·reader·record-at (record-at-thm.met 𝓤 H 𝓜 𝓖 𝓡))
-    (typed 𝓤 H (𝓖 .A) (givenOf 𝓤 H 𝓜 𝓖) (namedLft 1 0 tt κs) (a .0) _ (are .0))))
+    (typed 𝓤 H (𝓖 .A) (givenOf 𝓤 H 𝓜 𝓖) (namedLft 1 0 tt κs) (a .0) _ (are .0)))
