@@ -1,4 +1,4 @@
--- Demand 3 for the code: successive calls of `scan` that keep its contract are scans of one table, and what the caller reads after
+-- Demand 3 for the code: successive calls of `scan_packed` that keep its contract are scans of one table, and what the caller reads after
 -- each is what the scan reports. Assumes nothing.
 use mathlib.Core.Path.{_≡_, refl, sym, ap, ap₂, _∙_, subst}
 use mathlib.Core.Bool.{Bool, true, false, cond}
@@ -23,7 +23,7 @@ use Rattle.scan.proofs.Scanning.{after, after-next, outs-count}
 use Rattle.scan.proofs.Wired.{unpacked-packed}
 use Rattle.scan.proofs.Chained.{chain-is-stretch, own-coils, to-the-end, sizes-stay}
 use Rattle.scan.proofs.Demand3.{demand-3}
-use Rattle.scan.proofs.scan.Reads as scan-reads
+use Rattle.scan.proofs.scan_packed.Reads as packed-reads
 
 packed-at : (outs : List Power) (i : ℕ) → getD (map packed outs) i 0 ≡ packed (getD outs i no-power)
 packed-at [] i = refl
@@ -100,7 +100,7 @@ pub demand-3-calls : Demand3Calls
 demand-3-calls ws i tables packs verdicts K there compares out alone on off j = calls-round ws i tables packs verdicts K there compares out alone on off j
 
 -- the contract that `Calls` speaks of is the one that the check reads off the source
-pub as-the-source-has-it : (κs : _) (a : _) (r : Verdict) (s : _) → scan-reads.Post κs a r s
+pub as-the-source-has-it : (κs : _) (a : _) (r : Verdict) (s : _) → packed-reads.Post κs a r s
     → LeavesTwo (scan-verdict (now (a .0)) (now (a .1 .0)) (now (a .1 .1 .0))) (scan-table (now (a .0)) (now (a .1 .0)) (now (a .1 .1 .0))) (scan-outputs (now (a .0)) (now (a .1 .0)) (now (a .1 .1 .0)))
     r (now (s .1 .0)) (now (s .1 .1 .0))
 as-the-source-has-it κs a r s p = p

@@ -3,13 +3,13 @@
 use mathlib.Core.Path.{sym, _∙_}
 use denote.Ref.{now}
 use Rattle.bits.specs.Promise.{DecidesBoth}
-use Rattle.scan.proofs.scan.Reads as scan-reads
+use Rattle.scan.proofs.scan_packed.Reads as packed-reads
 use Rattle.scan.proofs.repeat.scans.Reads as scans-reads
 
-pub scan-and-table : DecidesBoth scan-reads.Post (λ κs s. now (s .1 .0))
+pub scan-and-table : DecidesBoth packed-reads.Post (λ κs s. now (s .1 .0))
 scan-and-table κs a x y s t p q = (p .answers ∙ sym (q .answers), p .leaves-one ∙ sym (q .leaves-one))
 
-pub scan-and-outputs : DecidesBoth scan-reads.Post (λ κs s. now (s .1 .1 .0))
+pub scan-and-outputs : DecidesBoth packed-reads.Post (λ κs s. now (s .1 .1 .0))
 scan-and-outputs κs a x y s t p q = (p .answers ∙ sym (q .answers), p .leaves-other ∙ sym (q .leaves-other))
 
 pub scans-and-table : DecidesBoth scans-reads.Post (λ κs s. now (s .1 .0))

@@ -26,7 +26,7 @@ use Rattle.scan.specs.Input.{power-on}
 use Rattle.scan.specs.Scan.{State, step, steps, blocks-from, scanned, packed, scan-verdict, scan-table, scan-outputs}
 use Rattle.scan.specs.Scans.{scans-table, scans-outputs, scans-pointers, scans-verdict, scans-left, scans-packed, scans-marked}
 use Rattle.scan.specs.Truths.{RefusalKeeps, SameLong, InputsStay}
-use Rattle.scan.proofs.scan.Reads as scan-reads
+use Rattle.scan.proofs.scan_packed.Reads as packed-reads
 use Rattle.scan.proofs.repeat.scans.Reads as scans-reads
 
 -- ---- blocks that may follow so many earlier ones
@@ -125,11 +125,11 @@ refusal-keeps ws t outputs h = (
 )
 
 -- and so whatever the contract allows with a refusal for its answer
-pub scan-keeps-table : Keeps scan-reads.Post (λ κs v. v .number ≡ 0 → ⊥) (λ κs a. now (a .1 .0)) (λ κs s. now (s .1 .0))
+pub scan-keeps-table : Keeps packed-reads.Post (λ κs v. v .number ≡ 0 → ⊥) (λ κs a. now (a .1 .0)) (λ κs s. now (s .1 .0))
 scan-keeps-table κs a v s p h =
     p .leaves-one ∙ refusal-keeps _ _ _ (λ e. h (ap (λ (x : Verdict). x .number) (p .answers) ∙ e)) .0
 
-pub scan-keeps-outputs : Keeps scan-reads.Post (λ κs v. v .number ≡ 0 → ⊥) (λ κs a. now (a .1 .1 .0)) (λ κs s. now (s .1 .1 .0))
+pub scan-keeps-outputs : Keeps packed-reads.Post (λ κs v. v .number ≡ 0 → ⊥) (λ κs a. now (a .1 .1 .0)) (λ κs s. now (s .1 .1 .0))
 scan-keeps-outputs κs a v s p h =
     p .leaves-other ∙ refusal-keeps _ _ _ (λ e. h (ap (λ (x : Verdict). x .number) (p .answers) ∙ e)) .1
 

@@ -10,6 +10,7 @@ pub mod Determined
 pub mod Examples
 pub mod Kept
 pub mod Pointed
+pub mod Recording
 pub mod Repeating
 pub mod Scanning
 pub mod Verdicts

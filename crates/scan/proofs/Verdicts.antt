@@ -31,7 +31,7 @@ module _ (ws t outputs : List ℕ) where
       record { answers = sym e; leaves-one = sym (kept .0); leaves-other = sym (kept .1) }
 
   -- the verdict by its tests
-  by-tests : (fine long enough : Bool) → eqb (checked ws .number) 0 ≡ fine → eqb (length t) (total (sizes-in ws)) ≡ long → leb (word ws 5) (length outputs) ≡ enough
+  pub by-tests : (fine long enough : Bool) → eqb (checked ws .number) 0 ≡ fine → eqb (length t) (total (sizes-in ws)) ≡ long → leb (word ws 5) (length outputs) ≡ enough
       → scan-verdict ws t outputs ≡ cond fine (cond (long && enough) done (verdict 12 0)) (checked ws)
   unfolding scan-verdict
   by-tests fine long enough p q r i = cond (p i) (cond (q i && r i) done (verdict 12 0)) (checked ws)

@@ -258,9 +258,9 @@ pub record Chain (ws : List ℕ) (i m : ℕ) (given : ℕ → List ℕ) : Type 0
 abbrev pub ChainIsStretch : Type 0
 ChainIsStretch = (ws : List ℕ) (i m : ℕ) (given : ℕ → List ℕ) → Chain ws i m given → Stretch ws i m given
 
--- ---- calls of `scan`, one after the other on one table and one list of outputs
+-- ---- calls of `scan_packed`, one after the other on one table and one list of outputs
 
--- call j keeps the contract of `scan` and is not refused; `tables j` and `packs j` are lent to it
+-- call j keeps the contract of `scan_packed` and is not refused; `tables j` and `packs j` are lent to it
 pub record Calls (ws : List ℕ) (tables packs : ℕ → List ℕ) (verdicts : ℕ → Verdict) : Type 0 where
   pub kept : (j : ℕ) → LeavesTwo (scan-verdict ws (tables j) (packs j)) (scan-table ws (tables j) (packs j)) (scan-outputs ws (tables j) (packs j))
       (verdicts j) (tables (suc j)) (packs (suc j))

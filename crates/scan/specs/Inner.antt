@@ -6,9 +6,9 @@ use mathlib.Core.Bool.{Bool, cond}
 use mathlib.Core.List.{List, [], _++_, map}
 use mathlib.Core.Option.{none, some}
 use lib.Dec.{eqb}
-use lib.ListN.{length, getD, drop, set}
+use lib.ListN.{length, getD, take, drop, set}
 use Rattle.bits.specs.Bit.{bit, matrix}
-use Rattle.bits.specs.Promise.{Leaves}
+use Rattle.bits.specs.Promise.{Leaves, LeavesTwo}
 use Rattle.matrix.specs.declared.logic.Operation.{Operation}
 use Rattle.matrix.specs.declared.logic.Operation.the-variants.{And, Or, Xor, Comp}
 use Rattle.matrix.specs.declared.pointer.Pointer.{Pointer}
@@ -30,8 +30,9 @@ use Rattle.blocks.specs.View.{first-word, seen}
 use Rattle.blocks.specs.Effect.{Effect, logic, compare, rotate, modify, sense}
 use Rattle.blocks.specs.Work.{pointer-node, matrix-put, one-word, effect-on, outputs, block-outputs, block-table}
 use Rattle.blocks.specs.Truths.{Runs}
+use Rattle.scan.specs.declared.records.Numbers.{Numbers}
 use Rattle.scan.specs.Input.{power-on}
-use Rattle.scan.specs.Scan.{scanned, packed, unpacked, scan-verdict}
+use Rattle.scan.specs.Scan.{scanned, packed, unpacked, scan-verdict, scan-table, scan-outputs}
 use Rattle.scan.specs.Scans.{pointer-of, scan-pointers, scans-table, scans-outputs, scans-pointers}
 
 -- ---- pointers
@@ -161,3 +162,18 @@ pub record Repeated (ws : List ℕ) (times : ℕ) (t outputs pointers table pack
   pub table-after : table ≡ scans-table ws t times
   pub outputs-after : packs ≡ scans-outputs ws t times ++ drop (times * word ws 5) outputs
   pub pointers-after : marks ≡ scans-pointers ws t times ++ drop (times * word ws 5) pointers
+
+-- ---- a scan with records
+
+-- the smaller of two numbers
+pub record Least (a b r : ℕ) : Type 0 where
+  pub first : r ≤ a
+  pub second : r ≤ b
+  pub both : (n : ℕ) → n ≤ a → n ≤ b → n ≤ r
+
+-- the first numbers, over any list with so many entries, are what a scan of that list leaves
+pub record Numbered (ws t : List ℕ) (room : ℕ) (r : Numbers) (table : List ℕ) : Type 0 where
+  pub few : r .count ≤ 128
+  pub fits : r .count ≤ room
+  pub leaves : (outputs : List ℕ) → length outputs ≡ room → LeavesTwo (scan-verdict ws t outputs) (scan-table ws t outputs) (scan-outputs ws t outputs)
+      (r .verdict) table (take (r .count) (r .numbers) ++ drop (r .count) outputs)

@@ -2,6 +2,7 @@
 -- true of it, and demand 3.
 pub mod Input
 pub mod Scan
+pub mod Records
 pub mod Scans
 pub mod Truths
 pub mod Demand3

@@ -9,6 +9,7 @@ mod coil;
 mod compare;
 mod input;
 mod pointer;
+mod records;
 mod repeat;
 mod single;
 mod whole;
@@ -22,9 +23,12 @@ use network::Block;
 use network::Opened;
 use network::Read;
 use network::Sizes;
+pub use records::Outputs;
+pub use records::scan;
 pub use repeat::scans;
 ghost use mathlib.Core.Path.{_≡_};
 ghost use Rattle.bits.specs.Promise.{LeavesTwo};
+ghost use Rattle.network.specs.Check.{opened};
 ghost use Rattle.scan.specs.Scan.{packed, scan-verdict, scan-table, scan-outputs};
 ghost use Rattle.scan.specs.Inner.{Next, Ran, Scannable, Scanned};
 
@@ -76,9 +80,9 @@ fn run_all(words: &[u16], o: Opened, table: &mut [u16], outputs: &mut [u16], poi
     }
 }
 
-// One scan of the network that the words spell, on the table of its areas. Each block's outputs come back as one number, top
-// worth 1, middle 2, bottom 4; entries after the last block's stay.
-pub fn scan(words: &[u16], table: &mut [u16], outputs: &mut [u16]) -> Verdict
+// One scan of an opened network, or its refusal.
+fn scan_opened(words: &[u16], o: Opened, table: &mut [u16], outputs: &mut [u16]) -> Verdict
+    requires { ⌜ o ≡ opened (now words) ⌝ }
     ensures { λ r. ⌜
         LeavesTwo
         (scan-verdict (now (words .entry)) (now (table .entry)) (now (outputs .entry)))
@@ -86,7 +90,6 @@ pub fn scan(words: &[u16], table: &mut [u16], outputs: &mut [u16]) -> Verdict
         (scan-outputs (now (words .entry)) (now (table .entry)) (now (outputs .entry)))
         r (now (table .exit)) (now (outputs .exit)) ⌝ }
 {
-    let o = network::opening(words);
     let verdict = o.verdict;
     if verdict.number != 0 {
         return verdict;
@@ -107,4 +110,18 @@ pub fn scan(words: &[u16], table: &mut [u16], outputs: &mut [u16]) -> Verdict
         number: 0,
         place: 0,
     }
+}
+
+// One scan of the network that the words spell, on the table of its areas. Each block's outputs come back as one number, top
+// worth 1, middle 2, bottom 4; entries after the last block's stay.
+pub fn scan_packed(words: &[u16], table: &mut [u16], outputs: &mut [u16]) -> Verdict
+    ensures { λ r. ⌜
+        LeavesTwo
+        (scan-verdict (now (words .entry)) (now (table .entry)) (now (outputs .entry)))
+        (scan-table (now (words .entry)) (now (table .entry)) (now (outputs .entry)))
+        (scan-outputs (now (words .entry)) (now (table .entry)) (now (outputs .entry)))
+        r (now (table .exit)) (now (outputs .exit)) ⌝ }
+{
+    let o = network::opening(words);
+    scan_opened(words, o, table, outputs)
 }

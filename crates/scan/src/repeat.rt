@@ -39,7 +39,7 @@ fn run_times(
 }
 
 // Several scans of the network that the words spell, one after the other on its table, which is checked once for all of them. Of
-// each scan in turn, every block's outputs come back as `scan` gives them, and its pointer when it is done (0 for a kind without
+// each scan in turn, every block's outputs come back as `scan_packed` gives them, and its pointer when it is done (0 for a kind without
 // one); entries after them stay.
 pub fn scans(
     words: &[u16],

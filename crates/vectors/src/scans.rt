@@ -14,7 +14,7 @@ ghost use lib.ListN.{length};
 
 // One scan, and its line after the name.
 fn scanned(sizes: Sizes, words: &[u16], table: &mut [u16], outputs: &mut [u16]) {
-    let verdict = scan::scan(words, table, outputs);
+    let verdict = scan::scan_packed(words, table, outputs);
     print::byte(b':');
     print::verdict(verdict);
     print::numbers(b" outputs", outputs);

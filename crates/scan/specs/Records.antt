@@ -1,0 +1,70 @@
+-- A scan's outputs in a lent list of records, one for each block (document 01, "One scan"). A record and a number say the same
+-- three outputs, so the records are those of the packed list. Assumes nothing.
+use Prim.Native.Nat.{ℕ, _-_, _≤_, _<_}
+use mathlib.Core.Path.{_≡_}
+use mathlib.Core.List.{List, map}
+use lib.ListN.{length, getD, drop}
+use Rattle.bits.specs.declared.Verdict.{Verdict}
+use Rattle.network.specs.Record.{word}
+use Rattle.network.specs.Check.{verdict, checked}
+use Rattle.blocks.specs.declared.Power.{Power}
+use Rattle.scan.specs.declared.records.Outputs.{Outputs}
+use Rattle.scan.specs.Input.{of-block}
+use Rattle.scan.specs.Scan.{scanned, packed, unpacked, scan-verdict, scan-table, scan-outputs}
+
+-- the power on three outputs as a record, and back
+abbrev pub as-record : Power → Outputs
+as-record out = record { top = out .top; middle = out .middle; bottom = out .bottom }
+
+abbrev pub as-power : Outputs → Power
+as-power o = record { top = o .top; middle = o .middle; bottom = o .bottom }
+
+-- a record as one number, and a number as a record
+abbrev pub pack : Outputs → ℕ
+pack o = packed (as-power o)
+
+abbrev pub unpack : ℕ → Outputs
+unpack w = as-record (unpacked w)
+
+-- the verdict, the table and the list that a scan leaves
+abbrev pub records-verdict : List ℕ → List ℕ → List Outputs → Verdict
+records-verdict ws t os = scan-verdict ws t (map pack os)
+
+abbrev pub records-table : List ℕ → List ℕ → List Outputs → List ℕ
+records-table ws t os = scan-table ws t (map pack os)
+
+abbrev pub records-outputs : List ℕ → List ℕ → List Outputs → List Outputs
+records-outputs ws t os = map unpack (scan-outputs ws t (map pack os))
+
+-- the contract of a scan with records: the answer, the table and the list
+pub record Recorded (ws t : List ℕ) (os : List Outputs) (answer : Verdict) (table : List ℕ) (list : List Outputs) : Type 0 where
+  pub answers : answer ≡ records-verdict ws t os
+  pub leaves-table : table ≡ records-table ws t os
+  pub leaves-records : list ≡ records-outputs ws t os
+
+-- ---- what is true of it
+
+-- a record that is packed and unpacked is the record
+abbrev pub UnpackPack : Type 0
+UnpackPack = (o : Outputs) → unpack (pack o) ≡ o
+
+-- entry k - 1 holds the outputs of block k in this scan
+abbrev pub RecordOfBlock : Type 0
+RecordOfBlock =
+    (ws t : List ℕ) (os : List Outputs) (k : ℕ) (d : Outputs) → records-verdict ws t os .number ≡ 0 → 1 ≤ k → k ≤ word ws 5 →
+    getD (records-outputs ws t os) (k - 1) d ≡ as-record (of-block (scanned ws t .outs) k)
+
+-- entries after the count stay
+abbrev pub EntriesStay : Type 0
+EntriesStay = (ws t : List ℕ) (os : List Outputs) → drop (word ws 5) (records-outputs ws t os) ≡ drop (word ws 5) os
+
+-- a refusal changes neither the table nor the list
+abbrev pub RefusalKeepsRecords : Type 0
+RefusalKeepsRecords =
+    (ws t : List ℕ) (os : List Outputs) → (records-verdict ws t os .number ≡ 0 → ⊥) →
+    (records-table ws t os ≡ t) × (records-outputs ws t os ≡ os)
+
+-- of a network that is accepted, a list shorter than the count is refused
+abbrev pub ShortListRefused : Type 0
+ShortListRefused =
+    (ws t : List ℕ) (os : List Outputs) → checked ws .number ≡ 0 → length os < word ws 5 → records-verdict ws t os ≡ verdict 12 0

@@ -1,0 +1,94 @@
+// One scan whose outputs come back in a lent list of records, one for each block.
+//
+// The scan is done on packed numbers, in a list of its own (`numbered`). The functions in whose body a list of records stands only
+// move them.
+use crate::scan_opened;
+use bits::Verdict;
+ghost use mathlib.Core.Path.{_≡_};
+ghost use mathlib.Core.List.{map, _++_};
+ghost use Prim.Native.Nat.{_<_, _≤_};
+ghost use lib.ListN.{length, take, drop, getD};
+ghost use Rattle.scan.specs.Records.{unpack, Recorded};
+ghost use Rattle.scan.specs.Inner.{Least, Numbered};
+
+// What a block's outputs pass.
+pub struct Outputs {
+    pub top: bool,
+    pub middle: bool,
+    pub bottom: bool,
+}
+
+// The verdict on a scan, and the numbers of its blocks' outputs in front of a list: none where it is refused.
+struct Numbers {
+    verdict: Verdict,
+    count: usize,
+    numbers: [u16; 128],
+}
+
+// The smaller of a number of entries and 128, as many as a network has blocks at most.
+fn at_most_128(room: usize) -> usize
+    ensures { λ r. ⌜ Least room 128 r ⌝ }
+{
+    if room < 128 {
+        return room;
+    }
+    128
+}
+
+// A scan for a list of records that has so many entries, as packed numbers.
+fn numbered(words: &[u16], table: &mut [u16], room: usize) -> Numbers
+    ensures { λ r. ⌜ Numbered (now (words .entry)) (now (table .entry)) room r (now (table .exit)) ⌝ }
+{
+    let o = network::opening(words);
+    let mut numbers = [0u16; 128];
+    let entries = at_most_128(room);
+    let verdict = scan_opened(words, o, table, &mut numbers[..entries]);
+    if verdict.number != 0 {
+        return Numbers {
+            verdict: verdict,
+            count: 0,
+            numbers: numbers,
+        };
+    }
+    Numbers {
+        verdict: verdict,
+        count: o.count as usize,
+        numbers: numbers,
+    }
+}
+
+// The outputs that a number of a list spells.
+fn record_of(numbers: &[u16], k: usize) -> Outputs
+    requires { ⌜ k < length (now numbers) ⌝ }
+    ensures { λ r. ⌜ r ≡ unpack (getD (now (numbers .entry)) k 0) ⌝ }
+{
+    let number = numbers[k];
+    Outputs {
+        top: bits::bit_at(number, 16),
+        middle: bits::bit_at(number, 15),
+        bottom: bits::bit_at(number, 14),
+    }
+}
+
+// The first numbers as records at the front of a list.
+fn fill(outputs: &mut [Outputs], numbers: &[u16], count: usize)
+    requires { ⌜ (count ≤ length (now outputs)) × (count ≤ length (now numbers)) ⌝ }
+    ensures { λ _. ⌜ now (outputs .exit) ≡ map unpack (take count (now (numbers .entry))) ++ drop count (now (outputs .entry)) ⌝ }
+{
+    let mut k = 0;
+    while k < count {
+        outputs[k] = record_of(numbers, k);
+        k += 1;
+    }
+}
+
+// One scan of the network that the words spell, on the table of its areas. Each block's outputs come back in a record of the list;
+// entries after the last block's stay.
+pub fn scan(words: &[u16], table: &mut [u16], outputs: &mut [Outputs]) -> Verdict
+    ensures { λ r. ⌜
+        Recorded (now (words .entry)) (now (table .entry)) (now (outputs .entry)) r (now (table .exit)) (now (outputs .exit)) ⌝ }
+{
+    let ran = numbered(words, table, outputs.len());
+    fill(outputs, &ran.numbers, ran.count);
+    ran.verdict
+}
