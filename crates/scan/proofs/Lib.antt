@@ -9,6 +9,7 @@ pub mod Demand3
 pub mod Determined
 pub mod Examples
 pub mod Kept
+pub mod Lending
 pub mod Pointed
 pub mod Recording
 pub mod Repeating
