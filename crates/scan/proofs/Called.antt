@@ -18,7 +18,7 @@ use Rattle.blocks.specs.declared.Power.{Power}
 use Rattle.scan.specs.Input.{no-power}
 use Rattle.scan.specs.Scan.{State, step, scanned, packed, unpacked, scan-verdict, scan-table, scan-outputs}
 use Rattle.scan.specs.Demand3.{round, block-of, power-at, pointer-in, source, matrix, done-by, report, reports, Round, leaves-out, left-alone, Chain, Calls, reading, readings, Demand3Calls}
-use Rattle.scan.proofs.Kept.{exact-table, checks}
+use Rattle.scan.proofs.Kept.{exact-table, checks, done-outputs}
 use Rattle.scan.proofs.Scanning.{after, after-next, outs-count}
 use Rattle.scan.proofs.Wired.{unpacked-packed}
 use Rattle.scan.proofs.Chained.{chain-is-stretch, own-coils, to-the-end, sizes-stay}
@@ -41,10 +41,7 @@ module _ (ws : List ℕ) (i : ℕ) (tables packs : ℕ → List ℕ) (verdicts :
       ∙ ap (λ (a : Bool). cond a (scanned ws (tables j) .table) (tables j)) (eq-eqb (scan-verdict ws (tables j) (packs j) .number) 0 (taken j))
 
   outputs-are : (j : ℕ) → packs (suc j) ≡ map packed (scanned ws (tables j) .outs) ++ drop (word ws 5) (packs j)
-  unfolding scan-outputs
-  outputs-are j =
-      K .kept j .leaves-other
-      ∙ ap (λ (a : Bool). cond a (map packed (scanned ws (tables j) .outs) ++ drop (word ws 5) (packs j)) (packs j)) (eq-eqb (scan-verdict ws (tables j) (packs j) .number) 0 (taken j))
+  outputs-are j = K .kept j .leaves-other ∙ done-outputs ws (tables j) (packs j) (taken j)
 
   -- the block's packed output, unpacked
   output-at : i < word ws 5 → (j : ℕ) → unpacked (getD (packs (suc j)) i 0) ≡ getD (scanned ws (tables j) .outs) i no-power

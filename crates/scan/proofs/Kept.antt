@@ -5,7 +5,7 @@ use mathlib.Core.Bool.{Bool, true, false, cond, _&&_}
 use mathlib.Core.List.{List, [], _∷_, _++_, map}
 use Prim.Native.Nat.{ℕ, zero, suc, _+_, _*_, _≤_, _<_}
 use native.Mathlib.Omega.{arith}
-use borrow.Author.Tests.{eqb-true, eqb-false, ne-eqb, leb-true}
+use borrow.Author.Tests.{eqb-true, eqb-false, eq-eqb, ne-eqb, leb-true}
 use denote.Ref.{now}
 use lib.Dec.{eqb, leb}
 use lib.ListN.{length, drop}
@@ -22,10 +22,13 @@ use Rattle.network.proofs.Accepted.{accepts-exactly}
 use Rattle.blocks.specs.declared.Power.{Power}
 use Rattle.blocks.specs.Truths.{Runs}
 use Rattle.blocks.proofs.Written.{same-long, inputs-stay as block-inputs-stay}
+use Rattle.scan.specs.declared.records.Outputs.{Outputs}
 use Rattle.scan.specs.Input.{power-on}
 use Rattle.scan.specs.Scan.{State, step, steps, blocks-from, scanned, packed, scan-verdict, scan-table, scan-outputs}
+use Rattle.scan.specs.Records.{pack, unpack, Recorded, RefusalKeepsRecords}
 use Rattle.scan.specs.Scans.{scans-table, scans-outputs, scans-pointers, scans-verdict, scans-left, scans-packed, scans-marked}
 use Rattle.scan.specs.Truths.{RefusalKeeps, SameLong, InputsStay}
+use Rattle.scan.proofs.Packing.{all-back}
 use Rattle.scan.proofs.scan_packed.Reads as packed-reads
 use Rattle.scan.proofs.repeat.scans.Reads as scans-reads
 
@@ -117,6 +120,12 @@ module _ (ws t outputs : List ℕ) where
   after-scan : scan-verdict ws t outputs .number ≡ 0 → Same (sizes-in ws) t (scanned ws t .table)
   after-scan h = after-blocks ws t (accepted h) (exact-table h) (word ws 5) (omega arith)
 
+-- the outputs of a scan that is not refused
+pub done-outputs : (ws t outputs : List ℕ) → scan-verdict ws t outputs .number ≡ 0 → scan-outputs ws t outputs ≡ map packed (scanned ws t .outs) ++ drop (word ws 5) outputs
+unfolding scan-outputs
+done-outputs ws t outputs h =
+    ap (λ (a : Bool). cond a (map packed (scanned ws t .outs) ++ drop (word ws 5) outputs) outputs) (eq-eqb (scan-verdict ws t outputs .number) 0 h)
+
 pub refusal-keeps : RefusalKeeps
 unfolding scan-table scan-outputs
 refusal-keeps ws t outputs h = (
@@ -124,14 +133,24 @@ refusal-keeps ws t outputs h = (
   ap (λ (a : Bool). cond a (map packed (scanned ws t .outs) ++ drop (word ws 5) outputs) outputs) (ne-eqb (scan-verdict ws t outputs .number) 0 h),
 )
 
+pub refusal-keeps-records : RefusalKeepsRecords
+refusal-keeps-records ws t os h =
+    let kept = refusal-keeps ws t (map pack os) h in
+    (kept .0, ap (map unpack) (kept .1) ∙ all-back os)
+
 -- and so whatever the contract allows with a refusal for its answer
-pub scan-keeps-table : Keeps packed-reads.Post (λ κs v. v .number ≡ 0 → ⊥) (λ κs a. now (a .1 .0)) (λ κs s. now (s .1 .0))
-scan-keeps-table κs a v s p h =
+pub packed-keeps-table : Keeps packed-reads.Post (λ κs v. v .number ≡ 0 → ⊥) (λ κs a. now (a .1 .0)) (λ κs s. now (s .1 .0))
+packed-keeps-table κs a v s p h =
     p .leaves-one ∙ refusal-keeps _ _ _ (λ e. h (ap (λ (x : Verdict). x .number) (p .answers) ∙ e)) .0
 
-pub scan-keeps-outputs : Keeps packed-reads.Post (λ κs v. v .number ≡ 0 → ⊥) (λ κs a. now (a .1 .1 .0)) (λ κs s. now (s .1 .1 .0))
-scan-keeps-outputs κs a v s p h =
+pub packed-keeps-outputs : Keeps packed-reads.Post (λ κs v. v .number ≡ 0 → ⊥) (λ κs a. now (a .1 .1 .0)) (λ κs s. now (s .1 .1 .0))
+packed-keeps-outputs κs a v s p h =
     p .leaves-other ∙ refusal-keeps _ _ _ (λ e. h (ap (λ (x : Verdict). x .number) (p .answers) ∙ e)) .1
+
+pub scan-keeps : {ws t table : List ℕ} {os list : List Outputs} {v : Verdict} → Recorded ws t os v table list → (v .number ≡ 0 → ⊥) → (table ≡ t) × (list ≡ os)
+scan-keeps p h =
+    let kept = refusal-keeps-records _ _ _ (λ e. h (ap (λ (x : Verdict). x .number) (p .answers) ∙ e)) in
+    (p .leaves-table ∙ kept .0, p .leaves-records ∙ kept .1)
 
 pub same-long-after : SameLong
 unfolding scan-table

@@ -10,6 +10,7 @@ pub mod Determined
 pub mod Examples
 pub mod Kept
 pub mod Lending
+pub mod Packing
 pub mod Pointed
 pub mod Recording
 pub mod Repeating

@@ -1,15 +1,15 @@
--- The laws of a scan with records: the numbers that stand for them, the list as it is filled, and what is true of the list that is
--- left. Assumes nothing.
+-- The laws of a scan with records: the numbers of its blocks, the list as it is filled from them, and what is true of the list that
+-- is left. Assumes nothing.
 use mathlib.Core.Path.{_≡_, refl, sym, ap, ap₂, _∙_, subst}
-use mathlib.Core.Bool.{Bool, true, false, cond}
+use mathlib.Core.Bool.{Bool, true, false, cond, _&&_}
 use mathlib.Core.List.{List, [], _∷_, _++_, map, append-assoc, map-append}
 use Prim.Native.Nat.{ℕ, zero, suc, _+_, _-_, _≤_, _<_}
 use native.Mathlib.Numerals.{add-one}
 use native.Mathlib.Omega.{arith}
-use borrow.Author.Tests.{eq-eqb, eqb-true, le-leb, lt-leb, leb-true, leb-false, ltb-true, ltb-false}
+use borrow.Author.Tests.{eq-eqb, eqb-true, eqb-false, le-leb, lt-leb, leb-true, leb-false, ltb-true, ltb-false}
 use lib.Dec.{eqb, leb, ltb}
 use lib.ListN.{length, getD, take, drop, set, length-append, length-drop, length-map, List·getD-append, List·getD-map}
-use lib.Seq.{take-at, take-suc, drop-cons, set-at, length-take-le}
+use lib.Seq.{take-at, drop-at, take-suc, drop-cons, set-at, length-take-le}
 use Rattle.bits.specs.declared.Verdict.{Verdict}
 use Rattle.bits.specs.Promise.{LeavesTwo}
 use Rattle.network.specs.declared.checker.Opened.{Opened}
@@ -20,26 +20,20 @@ use Rattle.network.proofs.Accepted.{accepts-exactly}
 use Rattle.blocks.specs.declared.Power.{Power}
 use Rattle.scan.specs.declared.records.Outputs.{Outputs}
 use Rattle.scan.specs.declared.records.Numbers.{Numbers}
+use Rattle.scan.specs.Input.{no-power}
 use Rattle.scan.specs.Scan.{scanned, packed, unpacked, scan-verdict, scan-table, scan-outputs}
-use Rattle.scan.specs.Records.{as-record, as-power, pack, unpack, Recorded, UnpackPack}
+use Rattle.scan.specs.Records.{as-record, pack, unpack, records-verdict, records-outputs, Recorded, RecordOfBlock, EntriesStay, ShortListRefused}
 use Rattle.scan.specs.Inner.{Least, Numbered}
-use Rattle.scan.proofs.Kept.{refusal-keeps, enough}
+use Rattle.scan.proofs.Kept.{done-outputs, refusal-keeps, refusal-keeps-records, enough}
+use Rattle.scan.proofs.Packing.{rest-back}
 use Rattle.scan.proofs.Scanning.{after, outs-count}
 use Rattle.scan.proofs.Verdicts.{by-tests}
 use Rattle.scan.proofs.Wired.{unpacked-packed}
 
--- ---- records and numbers
-pub unpack-pack : UnpackPack
-unpack-pack o = ap as-record (unpacked-packed (as-power o))
-
-all-back : (os : List Outputs) → map unpack (map pack os) ≡ os
-all-back [] = refl
-all-back (o ∷ os) = ap₂ (λ (x : Outputs) (xs : List Outputs). x ∷ xs) (unpack-pack o) (all-back os)
-
-rest-back : (n : ℕ) (os : List Outputs) → map unpack (drop n (map pack os)) ≡ drop n os
-rest-back zero os = all-back os
-rest-back (suc n) [] = refl
-rest-back (suc n) (o ∷ os) = rest-back n os
+-- a number for each block
+packs-count : (ws t : List ℕ) → length (map packed (scanned ws t .outs)) ≡ word ws 5
+unfolding after
+packs-count ws t = length-map (scanned ws t .outs) packed ∙ outs-count ws t (word ws 5)
 
 -- ---- a list whose first k entries are filled from numbers
 abbrev pub filled : List ℕ → List Outputs → ℕ → List Outputs
@@ -116,18 +110,12 @@ module _ (ws t : List ℕ) {room e : ℕ} (least : Least room 128 e) (zs : List 
     };
   }
 
-  outputs-of : (outputs : List ℕ) → scan-verdict ws t outputs .number ≡ 0 → scan-outputs ws t outputs ≡ map packed (scanned ws t .outs) ++ drop (word ws 5) outputs
-  unfolding scan-outputs
-  outputs-of outputs h =
-      ap (λ (a : Bool). cond a (map packed (scanned ws t .outs) ++ drop (word ws 5) outputs) outputs) (eq-eqb (scan-verdict ws t outputs .number) 0 h)
-
   front : scan-verdict ws t (take e zs) .number ≡ 0 → take (word ws 5) (packs ++ drop e zs) ≡ map packed (scanned ws t .outs)
-  unfolding after
   front h =
       let numbers : List ℕ = map packed (scanned ws t .outs) in
-      ap (λ (x : List ℕ). take (word ws 5) (x ++ drop e zs)) (s .leaves-other ∙ outputs-of (take e zs) h)
+      ap (λ (x : List ℕ). take (word ws 5) (x ++ drop e zs)) (s .leaves-other ∙ done-outputs ws t (take e zs) h)
       ∙ ap (take (word ws 5)) (append-assoc numbers (drop (word ws 5) (take e zs)) (drop e zs))
-      ∙ take-at numbers (drop (word ws 5) (take e zs) ++ drop e zs) (word ws 5) (length-map (scanned ws t .outs) packed ∙ outs-count ws t (word ws 5))
+      ∙ take-at numbers (drop (word ws 5) (take e zs) ++ drop e zs) (word ws 5) (packs-count ws t)
 
   pub numbered-done : v .number ≡ 0 → (o : Opened) → o ≡ opened ws → Numbered ws t room (record { verdict = v; count = o .count; numbers = packs ++ drop e zs }) table
   unfolding opened
@@ -144,7 +132,7 @@ module _ (ws t : List ℕ) {room e : ℕ} (least : Least room 128 e) (zs : List 
           leaves-other =
               ap (λ (n : ℕ). take n (packs ++ drop e zs) ++ drop n outputs) count
               ∙ ap (λ (x : List ℕ). x ++ drop (word ws 5) outputs) (front zero-number)
-              ∙ sym (outputs-of outputs (sym (ap (λ (x : Verdict). x .number) (same outputs l)) ∙ zero-number));
+              ∙ sym (done-outputs ws t outputs (sym (ap (λ (x : Verdict). x .number) (same outputs l)) ∙ zero-number));
         };
       }
 
@@ -161,3 +149,39 @@ recorded ws t os {n} h =
           ∙ sym (map-append unpack (take (n .count) (n .numbers)) (drop (n .count) (map pack os)))
           ∙ ap (map unpack) (l .leaves-other);
     }
+
+-- ---- what is true of the list that is left
+record-at : (outs : List Power) (rest : List ℕ) (i : ℕ) (d : Outputs) → i < length outs → getD (map unpack (map packed outs ++ rest)) i d ≡ as-record (getD outs i no-power)
+record-at [] rest i d l = absurd (omega arith)
+record-at (out ∷ outs) rest zero d l = ap as-record (unpacked-packed out)
+record-at (out ∷ outs) rest (suc i) d l = record-at outs rest i d (omega arith)
+
+pub record-of-block : RecordOfBlock
+unfolding after
+record-of-block ws t os k d h l u =
+    ap (λ (w : List ℕ). getD (map unpack w) (k - 1) d) (done-outputs ws t (map pack os) h)
+    ∙ record-at (scanned ws t .outs) (drop (word ws 5) (map pack os)) (k - 1) d (omega (arith, outs-count ws t (word ws 5)))
+
+pub entries-stay : EntriesStay
+entries-stay ws t os = go (eqb (records-verdict ws t os .number) 0) refl
+  where
+    n : ℕ
+    n = word ws 5
+
+    front : List ℕ
+    front = map packed (scanned ws t .outs)
+
+    go : (a : Bool) → eqb (records-verdict ws t os .number) 0 ≡ a → drop n (records-outputs ws t os) ≡ drop n os
+    go true e =
+        ap (λ (w : List ℕ). drop n (map unpack w)) (done-outputs ws t (map pack os) (eqb-true (records-verdict ws t os .number) 0 e))
+        ∙ ap (drop n) (map-append unpack front (drop n (map pack os)))
+        ∙ drop-at (map unpack front) (map unpack (drop n (map pack os))) n (length-map front unpack ∙ packs-count ws t)
+        ∙ rest-back n os
+    go false e = ap (drop n) (refusal-keeps-records ws t os (eqb-false (records-verdict ws t os .number) 0 e) .1)
+
+pub short-list-refused : ShortListRefused
+short-list-refused ws t os h l = by-tests ws t (map pack os) true _ _ (eq-eqb (checked ws .number) 0 h) refl (lt-leb (word ws 5) (length (map pack os)) (omega (arith, length-map os pack))) ∙ go (eqb (length t) (total (sizes-in ws)))
+  where
+    go : (a : Bool) → cond (a && false) done (verdict 12 0) ≡ verdict 12 0
+    go true = refl
+    go false = refl

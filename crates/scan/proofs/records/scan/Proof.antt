@@ -223,7 +223,7 @@ module _ {M : Type 1} (𝓤 : URA M) (H : Heap 𝓤) (A : Atoms 𝓤) (W : Given
         assigns ! (agg ! (and-then ! (load ! (from ! (stop !)) (look ! 7 refl)) (and-then ! (lit ! tt) (no-more !)))) (from ! (stop !)) (init ! 5 refl (tt, (tt, (record { fits = lit< tt }, tt)))) $
         assigns ! (of-opd ! (load ! (from ! (fld ! refl (stop !))) (look-in ! 23 (sub ! 1 refl (whole !))))) (from ! (stop !)) (store ! 15 refl (tt, record { fits = count-fits n is })) $
         -- the numbers are lent for a lifetime α of the call
-        lft-new ! tt (λ α. move ! (24 ∷ []) $ use1 W (later (some (λ (δ : GName). ‵ (Lent n is l₄ (α ∷ []) δ) ⊛ (‵ (Lender 128 l₄ 24 (n .numbers) (α ∷ [])) ⊛ raw (all 𝓤 (Way n is l₄ (α ∷ [])))))))  (lends n is l₄ (α ∷ [])) $ await ! tt $ pick ! (λ δ. split ! $
+        lft-new ! tt (λ α. move ! (24 ∷ []) $ use1 W (later (some (λ (δ : GName). ‵ (Lent n is l₄ (α ∷ []) δ) ⊛ (‵ (Lender 128 l₄ 24 (n .numbers) (α ∷ [])) ⊛ raw (all 𝓤 (Way n is l₄ (α ∷ []))))))) (lends n is l₄ (α ∷ [])) $ await ! tt $ pick ! (λ δ. split ! $
         -- `fill`: [the numbers; what is kept of them; α's token; the tokens; the table's last words; the records' token; the records; the words; _13; …]
         move ! (5 ∷ 2 ∷ 6 ∷ 0 ∷ []) $ join ! $ use3 W (raw (Fill 𝓤 H A mem run .pre (to-fill n is l₄ α δ (zs .1 .0) h))) (goes-fill n is l₄ α δ (zs .1 .0) h) $
         calls-at ! fm (Fill 𝓤 H A mem run) known-fill (to-fill n is l₄ α δ (zs .1 .0) h) (and-then ! (load ! (from ! (stop !)) (look ! 9 refl)) (and-then ! (load ! (from ! (stop !)) (look ! 5 refl)) (and-then ! (load ! (from ! (stop !)) (look ! 15 refl)) (no-more !)))) (λ u.
