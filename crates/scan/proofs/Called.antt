@@ -2,12 +2,12 @@
 -- each is what the scan reports. Assumes nothing.
 use mathlib.Core.Path.{_≡_, refl, sym, ap, ap₂, _∙_, subst}
 use mathlib.Core.Bool.{Bool, true, false, cond}
-use mathlib.Core.List.{List, [], _∷_, _++_, map}
+use mathlib.Core.List.{List, [], _∷_, _++_, map, map-append}
 use mathlib.Core.Option.{Option, none, some}
 use Prim.Native.Nat.{ℕ, zero, suc, _+_, _<_}
 use native.Mathlib.Omega.{arith}
 use borrow.Author.Tests.{eq-eqb}
-use lib.ListN.{length, getD, drop, length-map, List·getD-append}
+use lib.ListN.{length, getD, drop, length-map, List·getD-append, List·getD-map}
 use denote.Ref.{now}
 use Rattle.bits.specs.declared.Verdict.{Verdict}
 use Rattle.bits.specs.Promise.{LeavesTwo}
@@ -15,10 +15,13 @@ use Rattle.network.specs.Table.{total}
 use Rattle.network.specs.Record.{word}
 use Rattle.network.specs.Check.{sizes-in}
 use Rattle.blocks.specs.declared.Power.{Power}
+use Rattle.scan.specs.declared.records.Outputs.{Outputs}
 use Rattle.scan.specs.Input.{no-power}
 use Rattle.scan.specs.Scan.{State, step, scanned, packed, unpacked, scan-verdict, scan-table, scan-outputs}
-use Rattle.scan.specs.Demand3.{round, block-of, power-at, pointer-in, source, matrix, done-by, report, reports, Round, leaves-out, left-alone, Chain, Calls, reading, readings, Demand3Calls}
+use Rattle.scan.specs.Records.{as-record, as-power, pack, unpack}
+use Rattle.scan.specs.Demand3.{round, block-of, power-at, pointer-in, source, matrix, done-by, report, reports, Round, leaves-out, left-alone, Chain, Calls, reading, readings, Demand3Calls, RecordCalls, record-readings, Demand3Records}
 use Rattle.scan.proofs.Kept.{exact-table, checks, done-outputs}
+use Rattle.scan.proofs.Packing.{numbers-back, rest-back, rest-packed}
 use Rattle.scan.proofs.Scanning.{after, after-next, outs-count}
 use Rattle.scan.proofs.Wired.{unpacked-packed}
 use Rattle.scan.proofs.Chained.{chain-is-stretch, own-coils, to-the-end, sizes-stay}
@@ -101,3 +104,41 @@ pub as-the-source-has-it : (κs : _) (a : _) (r : Verdict) (s : _) → packed-re
     → LeavesTwo (scan-verdict (now (a .0)) (now (a .1 .0)) (now (a .1 .1 .0))) (scan-table (now (a .0)) (now (a .1 .0)) (now (a .1 .1 .0))) (scan-outputs (now (a .0)) (now (a .1 .0)) (now (a .1 .1 .0)))
     r (now (s .1 .0)) (now (s .1 .1 .0))
 as-the-source-has-it κs a r s p = p
+
+-- ---- the same with records: calls of `scan` are, in numbers, calls of `scan_packed`
+module _ (ws : List ℕ) (tables : ℕ → List ℕ) (lists : ℕ → List Outputs) (verdicts : ℕ → Verdict) (K : RecordCalls ws tables lists verdicts) where
+  abbrev packs : ℕ → List ℕ
+  packs j = map pack (lists j)
+
+  packs-after : (j : ℕ) → packs (suc j) ≡ scan-outputs ws (tables j) (packs j)
+  packs-after j =
+      let front : List ℕ = map packed (scanned ws (tables j) .outs) in
+      let rest : List ℕ = drop (word ws 5) (packs j) in
+      let is : scan-outputs ws (tables j) (packs j) ≡ front ++ rest = done-outputs ws (tables j) (packs j) (sym (ap (λ (v : Verdict). v .number) (K .kept j .answers)) ∙ K .done j) in
+      ap (map pack) (K .kept j .leaves-records ∙ ap (map unpack) is ∙ map-append unpack front rest)
+      ∙ map-append pack (map unpack front) (map unpack rest)
+      ∙ ap₂ (λ (x y : List ℕ). x ++ y) (numbers-back (scanned ws (tables j) .outs)) (ap (map pack) (rest-back (word ws 5) (lists j)) ∙ rest-packed (word ws 5) (lists j))
+      ∙ sym is
+
+  in-numbers : Calls ws tables packs verdicts
+  in-numbers = record {
+    kept = λ j. record { answers = K .kept j .answers; leaves-one = K .kept j .leaves-table; leaves-other = packs-after j };
+    done = K .done;
+  }
+
+  middle-same : (i j : ℕ) → unpacked (getD (packs j) i 0) .middle ≡ getD (lists j) i (as-record no-power) .middle
+  middle-same i j =
+      ap (λ (w : ℕ). unpacked w .middle) (List·getD-map pack (lists j) i (as-record no-power))
+      ∙ ap (λ (p : Power). p .middle) (unpacked-packed (as-power (getD (lists j) i (as-record no-power))))
+
+  same-readings : (i k j : ℕ) → readings ws i tables packs j k ≡ record-readings ws i tables lists j k
+  unfolding readings record-readings
+  same-readings i zero j = refl
+  same-readings i (suc k) j =
+      ap₂ (λ (on : Bool) (l : List (Option ℕ)). cond on (some (pointer-in ws i (tables (suc j)))) none ∷ l) (middle-same i (suc j)) (same-readings i k (suc j))
+
+pub demand-3-records : Demand3Records
+demand-3-records ws i tables lists verdicts K there compares out alone on off j =
+    subst (Round (source ws i (tables j)) (matrix ws i (tables j)) (block-of ws i .n))
+    (same-readings ws tables lists verdicts K i (round (source ws i (tables j)) (matrix ws i (tables j)) (block-of ws i .n)) j)
+    (demand-3-calls ws i tables (packs ws tables lists verdicts K) verdicts (in-numbers ws tables lists verdicts K) there compares out alone on off j)

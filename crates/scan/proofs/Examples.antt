@@ -2,7 +2,7 @@
 -- on the left a network in words, a table and outputs, on the right the verdict, the table and the outputs after the scan.
 -- Assumes nothing.
 use mathlib.Core.Path.{_≡_, refl}
-use mathlib.Core.Bool.{xor}
+use mathlib.Core.Bool.{Bool, true, false, xor}
 use mathlib.Core.List.{List, [], _∷_, _++_}
 use Prim.Native.Nat.{ℕ}
 use Rattle.bits.specs.declared.Verdict.{Verdict}
@@ -17,8 +17,10 @@ use Rattle.network.specs.Record.{block-at}
 use Rattle.network.specs.Fault.{class-fault, number-fault, input-fault, faults, word-fault}
 use Rattle.network.specs.Check.{verdict, done, seek, head-faults, head-fault, fault-in, leading, opened}
 use Rattle.blocks.specs.Work.{block-outputs, block-table}
+use Rattle.scan.specs.declared.records.Outputs.{Outputs}
 use Rattle.scan.specs.Input.{passes}
 use Rattle.scan.specs.Scan.{step, steps, blocks-from, scan-verdict, scan-table, scan-outputs}
+use Rattle.scan.specs.Records.{records-verdict, records-table, records-outputs}
 use Rattle.scan.specs.Scans.{pointer-of, pointers-after, scans-table, scans-outputs, scans-pointers, scans-verdict, scans-left, scans-packed, scans-marked}
 
 -- a network in a table of a word of coils, a word of discrete inputs and four holding registers
@@ -201,6 +203,10 @@ refused = refl
 
 -- ---- several scans in one call
 
+-- an AND, which has no pointer, and a SENS of a constant
+abbrev two : List ℕ
+two = network 2 (block 1 1 1 2 top-on ++ 7 ∷ 1 ∷ 9 ∷ 2 ∷ 4 ∷ 1 ∷ top-on)
+
 abbrev Outcomes : Type 0
 Outcomes = Verdict × List ℕ × List ℕ × List ℕ
 
@@ -208,12 +214,12 @@ abbrev runs : List ℕ → List ℕ → ℕ → List ℕ → List ℕ → Outcom
 runs ws t times outputs pointers =
     (scans-verdict ws t times outputs pointers, scans-left ws t times outputs pointers, scans-packed ws t times outputs pointers, scans-marked ws t times outputs pointers)
 
--- the bench's example, four scans: outputs and pointers of each, and the entries after them stay; two scans of an AND, which has no
--- pointer, and a SENS of a constant; no scan; lists that are too short for two scans; a refused network
+-- the bench's example, four scans: outputs and pointers of each, and the entries after them stay; two scans of two
+-- blocks; no scan; lists that are too short for two scans; a refused network
 pub repeated :
     _≡_ {A = List Outcomes}
     (runs bench (registers 32769 0 0 0) 4 (9 ∷ 9 ∷ 9 ∷ 9 ∷ 8 ∷ []) (9 ∷ 9 ∷ 9 ∷ 9 ∷ 7 ∷ [])
-    ∷ runs (network 2 (block 1 1 1 2 top-on ++ 7 ∷ 1 ∷ 9 ∷ 2 ∷ 4 ∷ 1 ∷ top-on)) (registers 0x4000 0xffff 0 0) 2 (9 ∷ 9 ∷ 9 ∷ 9 ∷ []) (9 ∷ 9 ∷ 9 ∷ 9 ∷ [])
+    ∷ runs two (registers 0x4000 0xffff 0 0) 2 (9 ∷ 9 ∷ 9 ∷ 9 ∷ []) (9 ∷ 9 ∷ 9 ∷ 9 ∷ [])
     ∷ runs bench (registers 32769 0 0 0) 0 [] []
     ∷ runs bench (registers 32769 0 0 0) 2 (9 ∷ []) (9 ∷ 9 ∷ [])
     ∷ runs bench (registers 32769 0 0 0) 2 (9 ∷ 9 ∷ []) (9 ∷ [])
@@ -230,3 +236,28 @@ unfolding scans-verdict scans-left scans-packed scans-marked scans-table scans-o
     step steps blocks-from passes block-table block-outputs combined first reset in-range advanced start-of matrix value bit xor
     opened leading fault-in head-fault head-faults seek word-fault faults class-fault number-fault input-fault reference-fault rule allows block-at
 repeated = refl
+
+-- ---- the same with records
+abbrev three : Bool → Bool → Bool → Outputs
+three a b c = record { top = a; middle = b; bottom = c }
+
+abbrev with-records : List ℕ → List ℕ → List Outputs → Verdict × List ℕ × List Outputs
+with-records ws t os = (records-verdict ws t os, records-table ws t os, records-outputs ws t os)
+
+-- two blocks, and an entry after them that stays; the bench's example, all three outputs on; a list that is too short; a refused network
+pub recorded :
+    _≡_ {A = List (Verdict × List ℕ × List Outputs)}
+    (with-records two (registers 0x4000 0xffff 0 0) (three false false true ∷ three false false true ∷ three false true true ∷ [])
+    ∷ with-records bench (registers 32769 0 0 0) (three false false false ∷ [])
+    ∷ with-records two (registers 0x4000 0xffff 0 0) (three false true true ∷ [])
+    ∷ with-records (usual 1 0 top-on) (registers 1 2 3 4) (three false true true ∷ [])
+    ∷ [])
+    ((done, registers 0x4000 0x4000 0 0, three true false false ∷ three true true false ∷ three false true true ∷ [])
+    ∷ (done, registers 32769 1 0 0, three true true true ∷ [])
+    ∷ (verdict 12 0, registers 0x4000 0xffff 0 0, three false true true ∷ [])
+    ∷ (verdict 5 8, registers 1 2 3 4, three false true true ∷ [])
+    ∷ [])
+unfolding scan-verdict scan-table scan-outputs step steps blocks-from passes block-table block-outputs
+    combined first reset in-range advanced start-of matrix value bit xor
+    opened leading fault-in head-fault head-faults seek word-fault faults class-fault number-fault input-fault reference-fault rule allows block-at
+recorded = refl

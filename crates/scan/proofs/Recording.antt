@@ -1,14 +1,14 @@
 -- The laws of a scan with records: the numbers of its blocks, the list as it is filled from them, and what is true of the list that
 -- is left. Assumes nothing.
-use mathlib.Core.Path.{_≡_, refl, sym, ap, ap₂, _∙_, subst}
+use mathlib.Core.Path.{_≡_, refl, sym, ap, _∙_}
 use mathlib.Core.Bool.{Bool, true, false, cond, _&&_}
 use mathlib.Core.List.{List, [], _∷_, _++_, map, append-assoc, map-append}
 use Prim.Native.Nat.{ℕ, zero, suc, _+_, _-_, _≤_, _<_}
 use native.Mathlib.Numerals.{add-one}
 use native.Mathlib.Omega.{arith}
-use borrow.Author.Tests.{eq-eqb, eqb-true, eqb-false, le-leb, lt-leb, leb-true, leb-false, ltb-true, ltb-false}
-use lib.Dec.{eqb, leb, ltb}
-use lib.ListN.{length, getD, take, drop, set, length-append, length-drop, length-map, List·getD-append, List·getD-map}
+use borrow.Author.Tests.{eq-eqb, eqb-true, eqb-false, lt-leb, leb-true, leb-false}
+use lib.Dec.{eqb, leb}
+use lib.ListN.{length, getD, take, drop, set, length-append, length-drop, length-map}
 use lib.Seq.{take-at, drop-at, take-suc, drop-cons, set-at, length-take-le}
 use Rattle.bits.specs.declared.Verdict.{Verdict}
 use Rattle.bits.specs.Promise.{LeavesTwo}
@@ -21,7 +21,7 @@ use Rattle.blocks.specs.declared.Power.{Power}
 use Rattle.scan.specs.declared.records.Outputs.{Outputs}
 use Rattle.scan.specs.declared.records.Numbers.{Numbers}
 use Rattle.scan.specs.Input.{no-power}
-use Rattle.scan.specs.Scan.{scanned, packed, unpacked, scan-verdict, scan-table, scan-outputs}
+use Rattle.scan.specs.Scan.{scanned, packed, scan-verdict, scan-table, scan-outputs}
 use Rattle.scan.specs.Records.{as-record, pack, unpack, records-verdict, records-outputs, Recorded, RecordOfBlock, EntriesStay, ShortListRefused}
 use Rattle.scan.specs.Inner.{Least, Numbered}
 use Rattle.scan.proofs.Kept.{done-outputs, refusal-keeps, refusal-keeps-records, enough}
@@ -61,19 +61,18 @@ module _ (ns : List ℕ) (os : List Outputs) (k : ℕ) where
       ∙ ap (filled ns os) (sym (add-one k))
 
 -- ---- the verdict goes by the room, of which a network needs 128 entries at most
-same-leb : (n a b : ℕ) → (n ≤ a → n ≤ b) → (a < n → b < n) → leb n a ≡ leb n b
-same-leb n a b f g = go (leb n a) refl
+same-leb : (n a b : ℕ) → (n ≤ a → n ≤ b) → (n ≤ b → n ≤ a) → leb n a ≡ leb n b
+same-leb n a b f g = go (leb n a) (leb n b) refl refl
   where
-    go : (x : Bool) → leb n a ≡ x → x ≡ leb n b
-    go true e = sym (le-leb n b (f (leb-true n a e)))
-    go false e = sym (lt-leb n b (g (leb-false n a e)))
+    go : (x y : Bool) → leb n a ≡ x → leb n b ≡ y → x ≡ y
+    go true true p q = refl
+    go true false p q = absurd (omega (arith, f (leb-true n a p), leb-false n b q))
+    go false true p q = absurd (omega (arith, g (leb-true n b q), leb-false n a p))
+    go false false p q = refl
 
 same-room : (ws t a b : List ℕ) → (word ws 5 ≤ 128 → leb (word ws 5) (length a) ≡ leb (word ws 5) (length b)) → scan-verdict ws t a ≡ scan-verdict ws t b
 same-room ws t a b h = go (eqb (checked ws .number) 0) refl
   where
-    long : Bool
-    long = eqb (length t) (total (sizes-in ws))
-
     go : (fine : Bool) → eqb (checked ws .number) 0 ≡ fine → scan-verdict ws t a ≡ scan-verdict ws t b
     go true p =
         by-tests ws t a true _ _ p refl (h (accepts-exactly ws .0 (eqb-true (checked ws .number) 0 p) .few)) ∙ sym (by-tests ws t b true _ _ p refl refl)
@@ -81,19 +80,11 @@ same-room ws t a b h = go (eqb (checked ws .number) 0) refl
 
 module _ (ws t : List ℕ) {room e : ℕ} (least : Least room 128 e) (zs : List ℕ) (long : length zs ≡ 128) {v : Verdict} {table packs : List ℕ}
     (s : LeavesTwo (scan-verdict ws t (take e zs)) (scan-table ws t (take e zs)) (scan-outputs ws t (take e zs)) v table packs) where
-  -- a list that is too short for the count where it is cut at 128 is too short
-  short : word ws 5 ≤ 128 → (n : ℕ) → n ≡ room → e < word ws 5 → n < word ws 5
-  short few n l u = go (ltb n (word ws 5)) refl
-    where
-      go : (x : Bool) → ltb n (word ws 5) ≡ x → n < word ws 5
-      go true p = ltb-true n (word ws 5) p
-      go false p = absurd (omega (arith, least .both (word ws 5) (omega (arith, ltb-false n (word ws 5) p)) few))
-
   same : (outputs : List ℕ) → length outputs ≡ room → scan-verdict ws t (take e zs) ≡ scan-verdict ws t outputs
   same outputs l =
       let front : length (take e zs) ≡ e = length-take-le e zs (omega (arith, least .second)) in
       same-room ws t (take e zs) outputs (λ few. same-leb (word ws 5) (length (take e zs)) (length outputs)
-      (λ u. omega (arith, least .first)) (λ u. short few (length outputs) l (omega arith)))
+      (λ u. omega (arith, least .first)) (λ u. omega (arith, least .both (word ws 5) (omega arith) few)))
 
   same-table : (outputs : List ℕ) → length outputs ≡ room → scan-table ws t (take e zs) ≡ scan-table ws t outputs
   unfolding scan-table

@@ -23,8 +23,10 @@ use Rattle.blocks.specs.Kind.{Kind, kind-of}
 use Rattle.blocks.specs.Kind.Kind.{AND, OR, XOR, COMP, CMPR, MBIT, SENS, BROT}
 use Rattle.blocks.specs.View.{first-word, top-matrix, compared-matrix}
 use Rattle.blocks.specs.Work.{pointer-node, matrix-put, one-word, effect-on, block-table}
+use Rattle.scan.specs.declared.records.Outputs.{Outputs}
 use Rattle.scan.specs.Input.{no-power, power-on}
 use Rattle.scan.specs.Scan.{State, steps, blocks-from, scanned, unpacked, scan-verdict, scan-table, scan-outputs}
+use Rattle.scan.specs.Records.{as-record, Recorded}
 
 -- ---- d, the positions and c, by the bit definition
 
@@ -283,3 +285,25 @@ Demand3Calls =
     ((j : ℕ) → power-at ws i (tables j) .top ≡ true) → ((j : ℕ) → power-at ws i (tables j) .middle ≡ false) → (j : ℕ) →
     Round (source ws i (tables j)) (matrix ws i (tables j)) (block-of ws i .n)
     (readings ws i tables packs j (round (source ws i (tables j)) (matrix ws i (tables j)) (block-of ws i .n)))
+
+-- ---- and calls of `scan`, whose list is of records
+
+pub record RecordCalls (ws : List ℕ) (tables : ℕ → List ℕ) (lists : ℕ → List Outputs) (verdicts : ℕ → Verdict) : Type 0 where
+  pub kept : (j : ℕ) → Recorded ws (tables j) (lists j) (verdicts j) (tables (suc j)) (lists (suc j))
+  pub done : (j : ℕ) → verdicts j .number ≡ 0
+
+-- what the caller reads after a call: the middle output is now a field of the block's record
+abbrev pub record-reading : List ℕ → ℕ → List ℕ → List Outputs → Option ℕ
+record-reading ws i table list = cond (getD list i (as-record no-power) .middle) (some (pointer-in ws i table)) none
+
+unfoldable pub record-readings : List ℕ → ℕ → (ℕ → List ℕ) → (ℕ → List Outputs) → ℕ → ℕ → List (Option ℕ)
+record-readings ws i tables lists j zero = []
+record-readings ws i tables lists j (suc k) = record-reading ws i (tables (suc j)) (lists (suc j)) ∷ record-readings ws i tables lists (suc j) k
+
+abbrev pub Demand3Records : Type 0
+Demand3Records =
+    (ws : List ℕ) (i : ℕ) (tables : ℕ → List ℕ) (lists : ℕ → List Outputs) (verdicts : ℕ → Verdict) → RecordCalls ws tables lists verdicts →
+    i < word ws 5 → block-of ws i .kind ≡ 5 → leaves-out ws i ≡ true → left-alone ws i ≡ true →
+    ((j : ℕ) → power-at ws i (tables j) .top ≡ true) → ((j : ℕ) → power-at ws i (tables j) .middle ≡ false) → (j : ℕ) →
+    Round (source ws i (tables j)) (matrix ws i (tables j)) (block-of ws i .n)
+    (record-readings ws i tables lists j (round (source ws i (tables j)) (matrix ws i (tables j)) (block-of ws i .n)))

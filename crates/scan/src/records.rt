@@ -1,7 +1,7 @@
 // One scan whose outputs come back in a lent list of records, one for each block.
 //
-// The scan is done on packed numbers, in a list of its own (`numbered`). The functions in whose body a list of records stands only
-// move them.
+// The scan is done on packed numbers, in a list of its own (`numbered`). `fill` and `scan`, in whose bodies a list of records
+// stands, only move what the numbers say into it.
 use crate::scan_opened;
 use bits::Verdict;
 ghost use mathlib.Core.Path.{_≡_};
@@ -11,7 +11,7 @@ ghost use lib.ListN.{length, take, drop, getD};
 ghost use Rattle.scan.specs.Records.{unpack, Recorded};
 ghost use Rattle.scan.specs.Inner.{Least, Numbered};
 
-// What a block's outputs pass.
+// The three outputs of a block.
 pub struct Outputs {
     pub top: bool,
     pub middle: bool,
@@ -45,15 +45,15 @@ fn numbered(words: &[u16], table: &mut [u16], room: usize) -> Numbers
     let verdict = scan_opened(words, o, table, &mut numbers[..entries]);
     if verdict.number != 0 {
         return Numbers {
-            verdict: verdict,
+            verdict,
             count: 0,
-            numbers: numbers,
+            numbers,
         };
     }
     Numbers {
-        verdict: verdict,
+        verdict,
         count: o.count as usize,
-        numbers: numbers,
+        numbers,
     }
 }
 

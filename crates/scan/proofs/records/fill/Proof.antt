@@ -8,7 +8,7 @@ use Prim.Native.Nat.{ℕ, _+_, _-_, _*_, _≤_, _<_, _^_, zero-le}
 use native.Mathlib.Numerals.{add-one-le, add-one-dec}
 use native.Mathlib.Nat.{le-antisymm}
 use native.Mathlib.Omega.{arith}
-use borrow.Author.Tests.{lt-ltb, le-ltb, ltb-true, ltb-false}
+use borrow.Author.Tests.{ltb-true, ltb-false}
 use lib.Dec.{T as Holds, ltb, lit<}
 use lib.ListN.{length, set, getD}
 use lib.WfN.{Nat·lt-wfRel}
@@ -24,7 +24,7 @@ use prog.Wp.{Heap, Calls, Loops, Env, Out, Wp, WpFn, Tables, afterSeq, afterBloc
 use ghost.Atoms.{Atoms, sem}
 use contract.Monad.{Fun, fact}
 use contract.Running.{givenOf, tables, tablesOf}
-use types.Kit.{Given, Item, ‵, raw, some, later, _⊛_, ⋆, anyQ, atRet, runs, Sq, _$_, _∵_, !, qed, by, move, keep, drop, use1, use2, split, join, pick, rewrite, fsplit, fjoin, feqL, feqI, suffices, frame, await, done}
+use types.Kit.{Given, Item, ‵, raw, some, later, _⊛_, ⋆, anyQ, atRet, runs, Sq, _$_, _∵_, !, qed, by, move, drop, use1, use2, split, join, pick, rewrite, fsplit, fjoin, feqI, suffices, frame, await, done}
 use types.Run.{look, store, store-raw, init, forget, stop, hop, fld, from, load, lit, unit-lit, of-opd, bin, and-then, no-more, assigns, assigns-last, land, first, blocks, stays, leaves-loop, returns, enter, alloc1, alloc0, params1, pass1, pass0, free1, free0, exec, Below, again, loops}
 use types.Part.{whole, sub, look-in}
 use sound.WpLaws.{FmC, fmOf, WpFn-mono}
@@ -37,7 +37,7 @@ use denote.Memory.{pointee}
 use denote.Ref.{RefT}
 use denote.Slice.{sliceTy, sliceVal, slice-vals, MutSlice, ShrSlice, Room, heres, codedHoleys, at-slice, mut-slice-tells, shr-slice-tells, shr-slice-copy}
 use denote.Lend.{Held}
-use denote.Index.{row, place, place-is, elem-out, elem-put, opens-slice, closes-slice}
+use denote.Index.{row, place-is, elem-out, elem-put, opens-slice, closes-slice}
 use denote.Steps.{owned, peeks, heard, nothing}
 use denote.Struct.Laws as LL
 use denote.Triple.Statement.{Contract, Triple}
