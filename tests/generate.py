@@ -41,24 +41,23 @@ class Dice:
         return self.below(100) < percent
 
 
+def share_of(dice, shares):
+    """One of some things, each by its share in a hundred."""
+    roll = dice.below(100)
+    for share, thing in shares:
+        if roll < share:
+            return thing
+        roll -= share
+    raise AssertionError("the shares are a hundred")
+
+
 # ---- Shapes: how large a file is -----------------------------------------------------------------
 
 Shape = namedtuple("Shape", "sizes count scans")
 
 
 def shape_of(dice):
-    roll = dice.below(100)
-    if roll < 84:
-        return small(dice)
-    if roll < 89:
-        return at_limits(dice)
-    if roll < 92:
-        return many_blocks(dice)
-    if roll < 93:
-        return many_scans(dice)
-    if roll < 95:
-        return bare(dice)
-    return long_blocks(dice)
+    return share_of(dice, SHAPES)(dice)
 
 
 def small(dice):
@@ -94,6 +93,10 @@ def long_blocks(dice):
     sizes = {COILS: dice.pick([100, 128]), INPUTS: dice.pick([100, 128]), INPUT_REGISTERS: dice.pick([100, 255, 300]),
              HOLDING: dice.pick([101, 255, 256, 300, 520])}
     return Shape(sizes, dice.between(1, 6), dice.between(1, 4))
+
+
+# The share of each shape in a hundred.
+SHAPES = [(84, small), (5, at_limits), (3, many_blocks), (1, many_scans), (2, bare), (5, long_blocks)]
 
 
 # ---- Blocks that are accepted --------------------------------------------------------------------
@@ -164,6 +167,7 @@ def class_for(plan, what, classes):
 
 
 def place_block(plan, kind, top, middle):
+    """A block of that kind with its nodes in those classes."""
     n = length_for(plan, RULES[kind], top, middle)
     top_node, middle_node = nodes_for(plan, RULES[kind], n, top, middle)
     inputs = [input_for(plan, percent) for percent in (50, 30, 30)]
@@ -213,6 +217,7 @@ def node_at(plan, n, class_, word):
 
 
 def pointer_for(dice, n):
+    """A pointer's value: at each edge of a matrix of n words, within it, over it."""
     size = 16 * n
     return dice.pick([0, 1, size - 1, size, size, size + 1, 999, 65535, dice.below(65536),
                       dice.between(1, size), dice.between(1, size), dice.between(1, size)])
@@ -228,6 +233,7 @@ def input_for(plan, always):
 
 
 def numbers_for(plan, code):
+    """Numbers that a code may have, the first and last among them."""
     if code < 2:
         return [0]
     if code < 4:
@@ -294,6 +300,7 @@ def image_for(plan):
 
 
 def pattern(dice):
+    """A word of the image: often at random, else one with few or all bits."""
     return dice.pick([0, 65535, dice.pick([1, 32768, 32769]), 1 << dice.below(16), dice.below(18)] + [dice.below(65536)] * 5)
 
 
@@ -309,11 +316,18 @@ def liken(dice, areas, block):
 
 
 def set_pointer(dice, areas, block):
+    """Give a pointer its first value; in its own matrix often one with bit 1, which a reset would clear."""
     node = pointer_node(block)
-    if node is not None and node.class_ != CONSTANT:
-        within = node.class_ == block.middle.class_ and 0 <= node.number - block.middle.number < block.n
-        full = within and dice.chance(25)
-        areas[node.class_][node.number - 1] = dice.pick([65535, 32768]) if full else pointer_for(dice, block.n)
+    if node is None or node.class_ == CONSTANT:
+        return
+    areas[node.class_][node.number - 1] = pointer_for(dice, block.n)
+    if own_matrix(block) and dice.chance(30):
+        areas[node.class_][node.number - 1] = dice.pick([65535, 32768])
+
+
+def own_matrix(block):
+    """Whether MBIT's or SENS's pointer stands in the block's matrix."""
+    return block.kind != CMPR and block.top.class_ == block.middle.class_ and 0 <= block.top.number - block.middle.number < block.n
 
 
 # ---- A file's words, each with a label that says what stands there, so that a fault can be put at any of them ----
@@ -510,20 +524,12 @@ def cut_later(dice, data, i):
 
 def append(dice, data, i):
     """Let one byte, one word or more stand after the run."""
-    return data + bytes(dice.below(256) for _ in range(dice.pick([1, 1, 2, 2, 3, 4, 30, 3000])))
+    return data + bytes([dice.below(256)]) * dice.pick([1, 1, 2, 2, 3, 4, 30, 3000, 140000])
 
 
 # The share of each way in a hundred.
-WAYS = [(56, alone, keep), (8, anywhere, keep), (10, in_block, keep), (4, beside, keep), (13, alone, cut_later), (9, alone, append)]
-
-
-def way_for(dice):
-    roll = dice.below(100)
-    for share, more, end in WAYS:
-        if roll < share:
-            return more, end
-        roll -= share
-    raise AssertionError("the shares are a hundred")
+WAYS = [(56, (alone, keep)), (8, (anywhere, keep)), (10, (in_block, keep)), (4, (beside, keep)),
+        (13, (alone, cut_later)), (9, (alone, append))]
 
 
 def damaged(dice, case):
@@ -531,7 +537,7 @@ def damaged(dice, case):
     plan = plan_of(dice, damaged_shape(dice))
     k = put_kind(plan, dice.pick(case.kinds)) if case.kinds else None
     file = File(plan)
-    more, end = way_for(dice)
+    more, end = share_of(dice, WAYS)
     i = spoil(dice, file, case, k)
     more(dice, file, i)
     return end(dice, file.data(), i)
@@ -546,15 +552,12 @@ def damaged_shape(dice):
 
 
 def put_kind(plan, kind):
-    """Let some block be of that kind, and give its number."""
-    if not plan.blocks:
-        plan.blocks.append(None)
-    k = plan.dice.between(1, len(plan.blocks))
-    later = plan.blocks[k - 1 :]
+    """Let some block be of that kind, where one fits, and give its number."""
+    k = plan.dice.between(1, max(1, len(plan.blocks)))
+    later = plan.blocks[k:]
     del plan.blocks[k - 1 :]
-    plan.blocks += [block_for(plan, kind) or block_for(plan)] + later[1:]
-    if plan.blocks[k - 1] is None:
-        del plan.blocks[k - 1]
+    block = block_for(plan, kind) or block_for(plan)
+    plan.blocks += ([block] if block else []) + later
     return k
 
 
