@@ -559,7 +559,7 @@ def line(scan_number, block_number, outputs, pointer):
 
 
 # "pointer when the block is done (a constant prints itself; `-` for kinds without one)"
-# open: a pointer that the block's own matrix or coils changed; the register is read after all the block's writes
+# open: a pointer that the block changed by writing its own matrix; the register is read after all the block's writes
 def shown_pointer(block, table):
     place = pointer_node(block)
     return "-" if place is None else pointer_value(place, table)
