@@ -1,11 +1,15 @@
--- The laws of the search: one position at a time, many at a time, and what its answer means. Assumes nothing.
-use mathlib.Core.Path.{_≡_, sym, ap, ap₂, _∙_}
+-- The laws of the search: one position at a time, many at a time, where it ends, and the words that are equal. Assumes nothing.
+use mathlib.Core.Path.{_≡_, sym, ap, ap₂, _∙_, subst}
 use mathlib.Core.Bool.{Bool, true, false, cond}
+use mathlib.Core.List.{List}
 use mathlib.Core.Option.{none, some}
 use Prim.Native.Nat.{ℕ, zero, suc, _+_, _-_, _≤_, _<_}
 use native.Mathlib.Nat.{add-zero, zero-add, suc-add}
+use native.Mathlib.Decide.{decLe}
 use native.Mathlib.Omega.{arith}
+use lib.ListN.{getD}
 use Rattle.matrix.specs.Search.{first}
+use Rattle.matrix.specs.Inner.{Equal}
 
 module _ (f : ℕ → Bool) where
   first-miss : (i k : ℕ) → f (suc i) ≡ false → first f i (suc k) ≡ first f (suc i) k
@@ -45,3 +49,20 @@ module _ (f : ℕ → Bool) where
     pub ended : (i : ℕ) → end ≤ i → first f i (end - i) ≡ none
     unfolding first
     ended i l = let left : end - i ≡ 0 = omega arith in ap (first f i) left
+
+-- ---- words that are equal
+module _ {x y : List ℕ} where
+  pub no-words : (k : ℕ) → Equal x y k k
+  no-words k = record { up = omega arith; words = λ j l u. absurd (omega arith) }
+
+  -- some are, and those that follow
+  pub joined : {i k m : ℕ} → Equal x y i k → Equal x y k m → Equal x y i m
+  joined {i} {k} {m} e f =
+      record { up = omega (arith, e .up, f .up); words = λ j l u. elim (decLe k j) [ yes v ↦ f .words j v u | no v ↦ e .words j l (omega arith) ] }
+
+  -- some are, and the next
+  pub one-more : {i k : ℕ} → Equal x y i k → getD x k 0 ≡ getD y k 0 → Equal x y i (k + 1)
+  one-more {i} {k} e f = joined e (record {
+    up = omega arith;
+    words = λ j l u. let here : k ≡ j = omega arith in subst (λ (w : ℕ). getD x w 0 ≡ getD y w 0) here f;
+  })

@@ -3,9 +3,11 @@ use crate::run::LONGEST_WHOLE;
 use crate::run::fault;
 use bits::Verdict;
 ghost use mathlib.Core.Path.{_≡_};
+ghost use mathlib.Core.Bool.{true};
+ghost use Prim.Native.Nat.{_≤_};
 ghost use lib.ListN.{length};
 ghost use Rattle.matrix.specs.Run.{longest-whole};
-ghost use Rattle.matrix.specs.Inner.{Accepted, Passed};
+ghost use Rattle.matrix.specs.Inner.{Accepted, Passed, Paired, Equal};
 ghost use Rattle.matrix.specs.Search.{first-difference};
 
 // A position, counted from 1, at which two matrices differ; nothing, where no later position differs; or a refusal.
@@ -15,17 +17,48 @@ pub enum Difference {
     Refused(Verdict),
 }
 
+// Whether the words of x and of y are equal from one on, up to another. All are compared, with no stop at the first that
+// differs: of four words that is one comparison.
+fn all_equal(x: &[u16], y: &[u16], from: usize, to: usize) -> bool
+    requires { ⌜ Paired (now x) (now y) to × (from ≤ to) ⌝ }
+    ensures { λ r. ⌜ (r ≡ true → Equal (now (x .entry)) (now (y .entry)) from to) ⌝ }
+{
+    let mut equal = true;
+    let mut k = from;
+    while k < to {
+        if x[k] != y[k] {
+            equal = false;
+        }
+        k += 1;
+    }
+    equal
+}
+
+// A word up to which the n words of x and of y are equal, from `from` on: four are passed at a time.
+fn equal_from(x: &[u16], y: &[u16], n: usize, from: usize) -> usize
+    requires { ⌜ Paired (now x) (now y) n × (from ≤ n) ⌝ }
+    ensures { λ r. ⌜ (r ≤ n) × Equal (now (x .entry)) (now (y .entry)) from r ⌝ }
+{
+    let mut k = from;
+    while k + 4 <= n && all_equal(x, y, k, k + 4) {
+        k += 4;
+    }
+    k
+}
+
 // How many positions of the n words from a on and from b on are passed, from `above` on, before the first that differs; as
-// many as there are, or more, where none does. A word of 16 positions that do not differ costs one comparison.
+// many as there are, or more, where none does. Words that are equal are passed without a look at their positions.
 fn passed_from(table: &[u16], a: usize, b: usize, n: usize, above: usize) -> usize
     requires { ⌜ Accepted longest-whole (length (now table)) n a b ⌝ }
     ensures { λ r. ⌜ Passed (now (table .entry)) a b n above r ⌝ }
 {
+    let x = &table[a..a + n];
+    let y = &table[b..b + n];
     let end = 16 * n;
     let mut passed = above;
     'words: while passed < end {
         let k = passed / 16;
-        let apart = bits::xor_words(table[a + k], table[b + k]);
+        let apart = bits::xor_words(x[k], y[k]);
         let next = 16 * k + 16;
         if apart != 0 {
             while passed < next {
@@ -35,7 +68,7 @@ fn passed_from(table: &[u16], a: usize, b: usize, n: usize, above: usize) -> usi
                 passed += 1;
             }
         }
-        passed = next;
+        passed = 16 * equal_from(x, y, n, k + 1);
     }
     passed
 }
