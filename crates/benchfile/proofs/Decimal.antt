@@ -1,8 +1,8 @@
 -- The digits of a number are the kit's: the digits one by one, their count by the five cases of `places`. Assumes nothing.
-use mathlib.Core.Path.{_≡_, refl, sym, ap, ap₂, _∙_, subst}
+use mathlib.Core.Path.{_≡_, refl, sym, ap, ap₂, subst}
 use mathlib.Core.List.{List, [], _∷_, _++_}
 use mathlib.Core.Bool.{Bool, cond}
-use Prim.Native.Nat.{ℕ, zero, suc, _+_, _-_, _/_, _%_, _^_, _≤_, _<_}
+use Prim.Native.Nat.{ℕ, zero, suc, _+_, _/_, _%_, _<_}
 use native.Mathlib.Decide.{decLt}
 use native.Mathlib.Omega.{arith}
 use borrow.Author.Tests.{lt-ltb}
@@ -31,10 +31,10 @@ module _ (n : ℕ) where
     | no a ↦ elim (decLt n 100) [
       | yes b ↦ counted (places-2 n (le-of-not-lt a) b) (omega arith, b, λ (q : 1 < 2). le-of-not-lt a)
       | no b ↦ elim (decLt n 1000) [
-        | yes d ↦ counted (places-3 n (le-of-not-lt a) (le-of-not-lt b) d) (omega arith, d, λ (q : 1 < 3). le-of-not-lt b)
+        | yes d ↦ counted (places-3 n (le-of-not-lt b) d) (omega arith, d, λ (q : 1 < 3). le-of-not-lt b)
         | no d ↦ elim (decLt n 10000) [
-          | yes e ↦ counted (places-4 n (le-of-not-lt a) (le-of-not-lt b) (le-of-not-lt d) e) (omega arith, e, λ (q : 1 < 4). le-of-not-lt d)
-          | no e ↦ counted (places-5 n (le-of-not-lt a) (le-of-not-lt b) (le-of-not-lt d) (le-of-not-lt e)) (omega arith, omega (arith, l), λ (q : 1 < 5). le-of-not-lt e)
+          | yes e ↦ counted (places-4 n (le-of-not-lt d) e) (omega arith, e, λ (q : 1 < 4). le-of-not-lt d)
+          | no e ↦ counted (places-5 n (le-of-not-lt e)) (omega arith, omega (arith, l), λ (q : 1 < 5). le-of-not-lt e)
         ]
       ]
     ]

@@ -1,15 +1,13 @@
 -- The laws of bytes put into a buffer: one byte, one run of bytes after another, the digits of a number. Assumes nothing.
 use mathlib.Core.Path.{_≡_, refl, sym, ap, ap₂, _∙_}
-use mathlib.Core.List.{List, [], _∷_, _++_, append-assoc, append-nil}
-use Prim.Native.Nat.{ℕ, zero, suc, _+_, _-_, _/_, _%_, _≤_, _<_}
-use native.Mathlib.Decide.{decLt}
+use mathlib.Core.List.{List, [], _∷_, _++_, append-assoc}
+use Prim.Native.Nat.{ℕ, suc, _+_, _/_, _%_, _≤_, _<_}
 use native.Mathlib.Nat.{add-zero}
 use native.Mathlib.Numerals.{add-one}
 use native.Mathlib.Omega.{arith}
 use borrow.Author.Tests.{lt-ltb, le-ltb}
 use lib.ListN.{length, getD, take, drop, set, length-append, length-drop, take-append-drop}
-use lib.Seq.{set-split, take-at, drop-append-add, drop-drop, length-take-le, take-suc, set-at, append-snoc}
-use Rattle.network.proofs.Walk.{le-of-not-lt}
+use lib.Seq.{set-split, take-at, drop-append-add, drop-drop, length-take-le, take-suc}
 use Rattle.benchfile.specs.Text.{places, digits, decimal}
 use Rattle.benchfile.specs.Inner.{Put}
 
@@ -107,11 +105,6 @@ put-next bytes i {at} {before} {after} l u p =
     }
 
 -- ---- a number
-pub digits-count : (k n : ℕ) → length (digits k n) ≡ k
-unfolding digits
-digits-count zero n = refl
-digits-count (suc k) n = length-append (digits k (n / 10)) ((48 + n % 10) ∷ []) ∙ omega (arith, digits-count k (n / 10))
-
 module _ (n : ℕ) where
   pub places-1 : n < 10 → places n ≡ 1
   unfolding places
@@ -121,89 +114,29 @@ module _ (n : ℕ) where
   unfolding places
   places-2 a l = simp (le-ltb n 10 a, lt-ltb n 100 l)
 
-  pub places-3 : 10 ≤ n → 100 ≤ n → n < 1000 → places n ≡ 3
+  pub places-3 : 100 ≤ n → n < 1000 → places n ≡ 3
   unfolding places
-  places-3 a b l = simp (le-ltb n 10 a, le-ltb n 100 b, lt-ltb n 1000 l)
+  places-3 b l = simp (le-ltb n 10 (omega arith), le-ltb n 100 b, lt-ltb n 1000 l)
 
-  pub places-4 : 10 ≤ n → 100 ≤ n → 1000 ≤ n → n < 10000 → places n ≡ 4
+  pub places-4 : 1000 ≤ n → n < 10000 → places n ≡ 4
   unfolding places
-  places-4 a b c l = simp (le-ltb n 10 a, le-ltb n 100 b, le-ltb n 1000 c, lt-ltb n 10000 l)
+  places-4 d l = simp (le-ltb n 10 (omega arith), le-ltb n 100 (omega arith), le-ltb n 1000 d, lt-ltb n 10000 l)
 
-  pub places-5 : 10 ≤ n → 100 ≤ n → 1000 ≤ n → 10000 ≤ n → places n ≡ 5
+  pub places-5 : 10000 ≤ n → places n ≡ 5
   unfolding places
-  places-5 a b c l = simp (le-ltb n 10 a, le-ltb n 100 b, le-ltb n 1000 c, le-ltb n 10000 l)
+  places-5 e = simp (le-ltb n 10 (omega arith), le-ltb n 100 (omega arith), le-ltb n 1000 (omega arith), le-ltb n 10000 e)
 
-  pub places-most : places n ≤ 5
-  places-most = elim (decLt n 10) [
-    | yes a ↦ omega (arith, places-1 a)
-    | no a ↦ elim (decLt n 100) [
-      | yes b ↦ omega (arith, places-2 (le-of-not-lt a) b)
-      | no b ↦ elim (decLt n 1000) [
-        | yes d ↦ omega (arith, places-3 (le-of-not-lt a) (le-of-not-lt b) d)
-        | no d ↦ elim (decLt n 10000) [
-          | yes e ↦ omega (arith, places-4 (le-of-not-lt a) (le-of-not-lt b) (le-of-not-lt d) e)
-          | no e ↦ omega (arith, places-5 (le-of-not-lt a) (le-of-not-lt b) (le-of-not-lt d) (le-of-not-lt e))
-        ]
-      ]
-    ]
-  ]
+-- a number's digits before the last two, and then those two
+pub put-two-more : (n : ℕ) {k at next end : ℕ} {before after last : List ℕ} → Put k before at (digits k (n / 100)) next after
+    → Put 2 after next (digits 2 n) end last → Put (k + 2) before at (digits (suc (suc k)) n) end last
+unfolding digits
+put-two-more n {k} p q =
+    let hundreds : n / 100 ≡ n / 10 / 10 = omega arith in
+    put-as (omega arith)
+    (ap (λ (m : ℕ). digits k m ++ digits 2 n) hundreds ∙ sym (append-assoc (digits k (n / 10 / 10)) ((48 + n / 10 % 10) ∷ []) ((48 + n % 10) ∷ [])))
+    (put-then p q)
 
-pub decimal-most : (n : ℕ) → length (decimal n) ≤ 5
+-- as many digits as a number takes
+pub put-decimal : (n : ℕ) {k at next : ℕ} {before after : List ℕ} → places n ≡ k → k ≤ 5 → Put k before at (digits k n) next after → Put 5 before at (decimal n) next after
 unfolding decimal
-decimal-most n = omega (arith, digits-count (places n) n, places-most n)
-
--- the digits from the last on are there, and the first `left` of them, which are those of `rest`, are missing
-pub record Spelled (before : List ℕ) (at n count left rest : ℕ) (text : List ℕ) : Type 0 where
-  pub tail : List ℕ
-  pub whole : digits count n ≡ digits left rest ++ tail
-  pub so-far : text ≡ take (at + left) before ++ (tail ++ drop (at + count) before)
-
-module _ {before : List ℕ} {at n count : ℕ} where
-  pub spell-none : Spelled before at n count count n before
-  spell-none = record { tail = []; whole = sym (append-nil (digits count n)); so-far = sym (take-append-drop (at + count) before) }
-
-  module _ {left rest : ℕ} {text : List ℕ} where
-    pub spelled-long : at + count ≤ length before → left ≤ count → Spelled before at n count left rest text → length text ≡ length before
-    spelled-long u l s =
-        let parts = ap length (s .whole) ∙ length-append (digits left rest) (s .tail) in
-        ap length (s .so-far)
-        ∙ length-append (take (at + left) before) (s .tail ++ drop (at + count) before)
-        ∙ ap₂ _+_ (length-take-le (at + left) before (omega arith)) (length-append (s .tail) (drop (at + count) before) ∙ ap (λ (k : ℕ). length (s .tail) + k) (length-drop (at + count) before))
-        ∙ omega (arith, parts, digits-count count n, digits-count left rest)
-
-    pub spell-one : {lower v : ℕ} → lower + 1 ≡ left → at + left ≤ length before → v ≡ 48 + rest % 10 → Spelled before at n count left rest text
-        → Spelled before at n count lower (rest / 10) (set text (at + lower) v)
-    unfolding digits
-    spell-one {lower} {v} e u q s =
-        let next : at + left ≡ suc (at + lower) = omega (arith, e) in
-        let before-it : take (at + left) before ≡ take (at + lower) before ++ getD before (at + lower) 0 ∷ [] =
-        ap (λ (k : ℕ). take k before) next ∙ take-suc before (at + lower) 0 (omega (arith, e))
-        in
-        record {
-          tail = v ∷ s .tail;
-          whole =
-              s .whole
-              ∙ ap (λ (k : ℕ). digits k rest ++ s .tail) (sym e ∙ add-one lower)
-              ∙ append-snoc (digits lower (rest / 10)) (48 + rest % 10) (s .tail)
-              ∙ ap (λ (k : ℕ). digits lower (rest / 10) ++ k ∷ s .tail) (sym q);
-          so-far =
-              ap (λ (x : List ℕ). set x (at + lower) v)
-              (s .so-far ∙ ap (λ (x : List ℕ). x ++ (s .tail ++ drop (at + count) before)) before-it ∙ append-snoc (take (at + lower) before) (getD before (at + lower) 0) (s .tail ++ drop (at + count) before))
-              ∙ set-at (take (at + lower) before) (getD before (at + lower) 0) (s .tail ++ drop (at + count) before) v (at + lower)
-              (length-take-le (at + lower) before (omega (arith, e)));
-        }
-
-    pub spell-all : count ≡ places n → at + count ≤ length before → left ≤ 0 → Spelled before at n count left rest text → Put 5 before at (decimal n) (at + count) text
-    unfolding decimal digits
-    spell-all e u l s =
-        let zero-left : left ≡ 0 = omega arith in
-        let here : at + left ≡ at = omega arith in
-        let all : digits (places n) n ≡ s .tail = ap (λ (k : ℕ). digits k n) (sym e) ∙ s .whole ∙ ap (λ (k : ℕ). digits k rest ++ s .tail) zero-left in
-        record {
-          few = decimal-most n;
-          reaches = omega (arith, digits-count (places n) n, e);
-          room = u;
-          holds =
-              s .so-far
-              ∙ ap₂ (λ (k : ℕ) (x : List ℕ). take k before ++ (x ++ drop (at + count) before)) here (sym all);
-        }
+put-decimal n e l = put-as l (ap (λ (k : ℕ). digits k n) (sym e))

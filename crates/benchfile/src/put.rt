@@ -1,9 +1,8 @@
 // Bytes and numbers put into a lent buffer, from a place on. Each answers the place after what it put.
 ghost use Prim.Native.Nat.{_+_, _≤_, _<_};
-ghost use mathlib.Core.Path.{_≡_};
 ghost use mathlib.Core.List.{_++_};
 ghost use lib.ListN.{length};
-ghost use Rattle.benchfile.specs.Text.{places, decimal};
+ghost use Rattle.benchfile.specs.Text.{digits, decimal};
 ghost use Rattle.benchfile.specs.Inner.{Put, one-byte};
 
 pub(crate) fn put_byte(text: &mut [u8], at: usize, byte: u8) -> usize
@@ -27,39 +26,45 @@ pub(crate) fn put_bytes(text: &mut [u8], at: usize, bytes: &[u8]) -> usize
     at + i
 }
 
-// How many decimal digits a number takes.
-fn places(n: u16) -> usize
-    ensures { λ r. ⌜ r ≡ places n ⌝ }
+// The last decimal digit of a number.
+fn put_digit(text: &mut [u8], at: usize, n: u16) -> usize
+    requires { ⌜ at + 1 ≤ length (now text) ⌝ }
+    ensures { λ r. ⌜ Put 1 (now (text .entry)) at (digits 1 n) r (now (text .exit)) ⌝ }
 {
-    if n < 10 {
-        return 1;
-    }
-    if n < 100 {
-        return 2;
-    }
-    if n < 1000 {
-        return 3;
-    }
-    if n < 10000 {
-        return 4;
-    }
-    5
+    put_byte(text, at, (48 + n % 10) as u8)
 }
 
-// A number in decimal digits, put from the last to the first.
+// The last two.
+fn put_two_digits(text: &mut [u8], at: usize, n: u16) -> usize
+    requires { ⌜ at + 2 ≤ length (now text) ⌝ }
+    ensures { λ r. ⌜ Put 2 (now (text .entry)) at (digits 2 n) r (now (text .exit)) ⌝ }
+{
+    let next = put_digit(text, at, n / 10);
+    put_digit(text, next, n)
+}
+
+// A number in as many decimal digits as it takes.
 pub(crate) fn put_number(text: &mut [u8], at: usize, n: u16) -> usize
     requires { ⌜ at + 5 ≤ length (now text) ⌝ }
     ensures { λ r. ⌜ Put 5 (now (text .entry)) at (decimal n) r (now (text .exit)) ⌝ }
 {
-    let count = places(n);
-    let mut left = count;
-    let mut rest = n;
-    while 0 < left {
-        left -= 1;
-        text[at + left] = (48 + rest % 10) as u8;
-        rest /= 10;
+    if n < 10 {
+        return put_digit(text, at, n);
     }
-    at + count
+    if n < 100 {
+        return put_two_digits(text, at, n);
+    }
+    if n < 1000 {
+        let next = put_digit(text, at, n / 100);
+        return put_two_digits(text, next, n);
+    }
+    if n < 10000 {
+        let next = put_two_digits(text, at, n / 100);
+        return put_two_digits(text, next, n);
+    }
+    let next = put_digit(text, at, n / 10000);
+    let next = put_two_digits(text, next, n / 100);
+    put_two_digits(text, next, n)
 }
 
 // A number and the byte that ends its field.

@@ -1,75 +1,101 @@
--- `benchfile::put::put_number` meets its contract. The loop keeps `Spelled`: the digits from the last on are put. Assumes nothing.
+-- `benchfile::put::put_number` meets its contract: each of the five cases puts as many digits as the number takes. Assumes nothing.
 use borrow.Author.Needs.{needs}
 use native.Mathlib.Omega.{arith}
-use mathlib.Core.Path.{_≡_, refl}
-use Prim.Native.Nat.{_+_, _-_, _≤_}
-use lib.ListN.{length}
-use Rattle.benchfile.specs.Text.{places}
-use Rattle.benchfile.proofs.Putting.{places-most, Spelled, spelled-long, spell-none, spell-one, spell-all}
+use mathlib.Core.Path.{_≡_, ap}
+use Prim.Native.Nat.{_/_}
+use Rattle.benchfile.specs.Text.{digits}
+use Rattle.benchfile.proofs.Putting.{put-as, places-1, places-2, places-3, places-4, places-5, put-two-more, put-decimal}
 use Rattle.benchfile.proofs.put.put_number.Statement.{statement}
 use Rattle.benchfile.proofs.put.put_number.Tie as tie
 
-abbrev Inv-loop : tie.InvT-loop
-Inv-loop text₀ at n count left₀ rest₀ text left rest = (count ≡ places n) × (at + count ≤ length text₀) × (left ≤ count) × Spelled text₀ at n count left rest text
+put-digit-requires : tie.Need-put-digit-requires
+put-digit-requires c κs = search needs
 
-abbrev μ-loop : tie.MeasureT-loop
-μ-loop text₀ at n count left₀ rest₀ text left rest = left
+same-length : tie.Need-same-length
+same-length c = search needs
 
-places-requires : tie.Need-places-requires Inv-loop μ-loop
-places-requires c κs = search needs
+returns : tie.Need-returns
+returns c =
+    let n = c .before .before .before .before .before .before .args .n in
+    put-decimal n (places-1 n (omega arith)) (omega arith) (c .before .before .put-digit .ensures)
 
-loop-holds : tie.Need-loop-holds Inv-loop μ-loop
-loop-holds c = (c .places .ensures, omega (arith, c .places .ensures, places-most (c .before .before .args .n)), omega arith, spell-none)
+put-two-digits-requires : tie.Need-put-two-digits-requires
+put-two-digits-requires c κs = search needs
 
-sub-left : tie.Need-sub-left Inv-loop μ-loop
-sub-left c = omega arith
+same-length-2 : tie.Need-same-length-2
+same-length-2 c = search needs
 
-add-text : tie.Need-add-text Inv-loop μ-loop
-add-text c = omega arith
+returns-2 : tie.Need-returns-2
+returns-2 c =
+    let n = c .before .before .before .before .before .before .before .args .n in
+    put-decimal n (places-2 n (omega arith) (omega arith)) (omega arith) (c .before .before .put-two-digits .ensures)
 
-cast-text : tie.Need-cast-text Inv-loop μ-loop
-cast-text c = omega arith
+put-digit-requires-2 : tie.Need-put-digit-requires-2
+put-digit-requires-2 c κs = search needs
 
-add-text-2 : tie.Need-add-text-2 Inv-loop μ-loop
-add-text-2 c = omega arith
+put-two-digits-requires-2 : tie.Need-put-two-digits-requires-2
+put-two-digits-requires-2 c κs = search needs
 
-slice-write-text : tie.Need-slice-write-text Inv-loop μ-loop
-slice-write-text c =
-    let v = c .before .loop .inv in
-    omega (arith, spelled-long (v .1) (v .2) (v .3))
+same-length-3 : tie.Need-same-length-3
+same-length-3 c = search needs
 
-loop-less : tie.Need-loop-less Inv-loop μ-loop
-loop-less c = omega arith
+returns-3 : tie.Need-returns-3
+returns-3 c =
+    let n = c .before .before .before .before .before .before .before .before .before .before .before .before .args .n in
+    put-decimal n (places-3 n (omega arith) (omega arith)) (omega arith) (put-two-more n (c .before .before .before .before .before .before .put-digit2 .ensures) (c .before .before .put-two-digits2 .ensures))
 
-loop-again : tie.Need-loop-again Inv-loop μ-loop
-loop-again c =
-    let v = c .before .loop .inv in
-    (v .0, v .1, omega arith, spell-one (omega (arith, c .loop-test .taken)) (omega arith) refl (v .3))
+put-two-digits-requires-3 : tie.Need-put-two-digits-requires-3
+put-two-digits-requires-3 c κs = search needs
 
-add-result : tie.Need-add-result Inv-loop μ-loop
-add-result c = omega arith
+put-two-digits-requires-4 : tie.Need-put-two-digits-requires-4
+put-two-digits-requires-4 c κs = search needs
 
-same-length : tie.Need-same-length Inv-loop μ-loop
-same-length c = let v = c .before .loop .inv in spelled-long (v .1) (v .2) (v .3)
+same-length-4 : tie.Need-same-length-4
+same-length-4 c = search needs
 
-returns : tie.Need-returns Inv-loop μ-loop
-returns c = let v = c .before .loop .inv in spell-all (v .0) (v .1) (c .loop-test .left) (v .3)
+returns-4 : tie.Need-returns-4
+returns-4 c =
+    let n = c .before .before .before .before .before .before .before .before .before .before .before .before .before .args .n in
+    put-decimal n (places-4 n (omega arith) (omega arith)) (omega arith) (put-two-more n (c .before .before .before .before .before .before .put-two-digits3 .ensures) (c .before .before .put-two-digits4 .ensures))
+
+put-digit-requires-3 : tie.Need-put-digit-requires-3
+put-digit-requires-3 c κs = search needs
+
+put-two-digits-requires-5 : tie.Need-put-two-digits-requires-5
+put-two-digits-requires-5 c κs = search needs
+
+put-two-digits-requires-6 : tie.Need-put-two-digits-requires-6
+put-two-digits-requires-6 c κs = search needs
+
+same-length-5 : tie.Need-same-length-5
+same-length-5 c = search needs
+
+returns-5 : tie.Need-returns-5
+returns-5 c =
+    let n = c .before .before .before .before .before .before .before .before .before .before .before .before .before .before .before .before .before .args .n in
+    let highest : n / 10000 ≡ n / 100 / 100 = omega arith in
+    put-decimal n (places-5 n (omega arith)) (omega arith) (put-two-more n (put-two-more (n / 100) (put-as (omega arith) (ap (digits 1) highest) (c .before .before .before .before .before .before .before .before .before .before .put-digit3 .ensures)) (c .before .before .before .before .before .before .put-two-digits5 .ensures)) (c .before .before .put-two-digits6 .ensures))
 
 pub put-number-spec : {M : Type 1} → statement M
 put-number-spec =
     tie.close
     (tie.spec
-    Inv-loop
-    μ-loop
-    places-requires
-    loop-holds
-    sub-left
-    add-text
-    cast-text
-    add-text-2
-    slice-write-text
-    loop-less
-    loop-again
-    add-result
+    put-digit-requires
     same-length
-    returns)
+    returns
+    put-two-digits-requires
+    same-length-2
+    returns-2
+    put-digit-requires-2
+    put-two-digits-requires-2
+    same-length-3
+    returns-3
+    put-two-digits-requires-3
+    put-two-digits-requires-4
+    same-length-4
+    returns-4
+    put-digit-requires-3
+    put-two-digits-requires-5
+    put-two-digits-requires-6
+    same-length-5
+    returns-5)
