@@ -10,7 +10,7 @@ const MOST_WORDS: usize = 12697;
 const MOST_TABLE: usize = 10767;
 
 // The bytes of text that are written at a time.
-const TEXT: usize = 65536;
+const TEXT: usize = 131072;
 
 fn text(s: &[u8]) {
     io::write_all(1, s);

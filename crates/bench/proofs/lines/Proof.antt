@@ -7,7 +7,7 @@ use Rattle.bench.proofs.lines.Statement.{statement}
 use Rattle.bench.proofs.lines.Tie as tie
 
 abbrev Inv-loop : tie.InvT-loop
-Inv-loop words table₀ scans buffer₀ next₀ table buffer next = (length table ≡ length table₀) × (length buffer ≡ 65536)
+Inv-loop words table₀ scans buffer₀ next₀ table buffer next = (length table ≡ length table₀) × (length buffer ≡ length buffer₀)
 
 abbrev μ-loop : tie.MeasureT-loop
 μ-loop words table₀ scans buffer₀ next₀ table buffer next = scans + 1 - next
