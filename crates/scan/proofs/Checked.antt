@@ -1,5 +1,5 @@
 -- What a block of a checked network gives the kinds' functions: its words lie in the table, and what a kind's function does is
--- the block's work. `top` and `middle` are the indexes of its nodes' first words. Assumes nothing.
+-- the block's work. Assumes nothing.
 use mathlib.Core.Path.{_≡_, refl, sym, ap, subst}
 use mathlib.Core.Bool.{true, cond}
 use mathlib.Core.List.{List}
@@ -22,13 +22,29 @@ use Rattle.blocks.specs.Kind.{kind-of}
 use Rattle.blocks.specs.View.{first-word, pointer-in, seen, view}
 use Rattle.blocks.specs.Effect.{logic, compare, effect-of}
 use Rattle.blocks.specs.Work.{pointer-node}
+use Rattle.scan.specs.declared.placed.Placed.{Placed}
 use Rattle.scan.specs.Scans.{has-pointer, pointer-of}
 use Rattle.scan.specs.Inner.{pointer-at, Pointing, Does, combined-at, rotated-at, compared-at, modified-at, sensed-at, operation-of, Ready, Works}
 
 below-next : (k m : ℕ) → k ≤ suc m → (k ≡ suc m → ⊥) → k ≤ m
 below-next k m l n = omega arith
 
-module _ (z : Sizes) (b : Block) (t : List ℕ) (r : Ready z b t) {top middle : ℕ} (e : top ≡ first-word z (b .top)) (f : middle ≡ first-word z (b .middle)) where
+module _ (z : Sizes) (one : Placed) (t : List ℕ) (r : Ready z one t) where
+  abbrev b : Block
+  b = one .block
+
+  abbrev top : ℕ
+  top = one .top
+
+  abbrev middle : ℕ
+  middle = one .middle
+
+  e : one .top ≡ first-word z (b .top)
+  e = r .lies .top-word
+
+  f : one .middle ≡ first-word z (b .middle)
+  f = r .lies .middle-word
+
   facts : KindFacts z b
   facts = accepted-means z (r .earlier) b (r .runs .good)
 
@@ -139,11 +155,11 @@ module _ (z : Sizes) (b : Block) (t : List ℕ) (r : Ready z b t) {top middle : 
       below : (m : ℕ) → b .kind ≤ suc m → (b .kind ≡ suc m → ⊥) → b .kind ≤ m
       below m l n = below-next (b .kind) m l n
 
+  pub middle-points : b .kind ≡ 5 → Pointing (b .middle) t middle
+  middle-points k c = omega (arith, facts .compare k .pointer-and-matrix, f, long)
+
 -- ---- the block's pointer, by the number of its kind
 module _ (z : Sizes) (b : Block) (t : List ℕ) where
-  pub middle-points : Ready z b t → b .kind ≡ 5 → Pointing (b .middle) t (first-word z (b .middle))
-  middle-points r k c = let h = accepted-means z (r .earlier) b (r .runs .good) .compare k in omega (arith, h .pointer-and-matrix, r .runs .exact)
-
   pointer-as : ℕ → ℕ
   pointer-as k = cond (has-pointer (kind-of k)) (pointer-in z (pointer-node (kind-of k) b) t) 0
 

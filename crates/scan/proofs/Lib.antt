@@ -11,12 +11,14 @@ pub mod Examples
 pub mod Kept
 pub mod Lending
 pub mod Packing
+pub mod Placing
 pub mod Pointed
 pub mod Recording
 pub mod Repeating
 pub mod Scanning
 pub mod Verdicts
 pub mod Visits
+pub mod Walking
 pub mod Wired
 pub mod Witnesses
 pub mod Works

@@ -1,8 +1,8 @@
 -- The laws of a scan's verdict: each refusal keeps the table and the outputs, and what is not refused is scanned. `o` is the
 -- network's opening. Assumes nothing.
-use mathlib.Core.Path.{_≡_, refl, sym, ap, _∙_, subst}
+use mathlib.Core.Path.{_≡_, refl, sym, ap, ap₂, _∙_, subst}
 use mathlib.Core.Bool.{Bool, true, false, cond, _&&_}
-use mathlib.Core.List.{List, _++_, map}
+use mathlib.Core.List.{List, _++_, map, append-nil}
 use Prim.Native.Nat.{ℕ, _*_, _≤_, _<_}
 use native.Mathlib.Omega.{arith}
 use borrow.Author.Tests.{eq-eqb, ne-eqb, le-leb, lt-leb}
@@ -14,9 +14,10 @@ use Rattle.network.specs.declared.checker.Opened.{Opened}
 use Rattle.network.specs.Table.{total}
 use Rattle.network.specs.Record.{word}
 use Rattle.network.specs.Check.{verdict, done, sizes-in, opened, checked}
+use Rattle.network.proofs.Accepted.{accepts-exactly}
 use Rattle.scan.specs.Scan.{scanned, packed, scan-verdict, scan-table, scan-outputs}
 use Rattle.scan.specs.Scans.{scans-table, scans-outputs, scans-pointers, scans-verdict, scans-left, scans-packed, scans-marked}
-use Rattle.scan.specs.Inner.{Scanned, Repeatable, Repeated}
+use Rattle.scan.specs.Inner.{Repeatable, Repeated}
 use Rattle.scan.proofs.Kept.{refusal-keeps}
 
 -- what the contract asks of an answer, a table and outputs
@@ -73,16 +74,19 @@ module _ (ws t outputs : List ℕ) where
         by-tests true true true (eq-eqb (checked ws .number) 0 (fine h)) (eq-eqb (length t) (total (sizes-in ws)) (long l))
         (le-leb (word ws 5) (length outputs) (omega (arith, s, ap (λ (x : Opened). x .count) e)))
 
-  -- a scan
-  pub scans : scan-verdict ws t outputs ≡ done → {pointers table packs marks : List ℕ} → Scanned ws t outputs pointers table packs marks → Scans ws t outputs done table packs
-  unfolding scan-table scan-outputs
-  scans e s = record {
-    answers = sym e;
-    leaves-one = s .table-after ∙ sym (ap (λ (v : Verdict). cond (eqb (v .number) 0) (scanned ws t .table) t) e);
-    leaves-other =
-        s .outputs-after
-        ∙ sym (ap (λ (v : Verdict). cond (eqb (v .number) 0) (map packed (scanned ws t .outs) ++ drop (word ws 5) outputs) outputs) e);
-  }
+  -- a scan is one of several
+  pub scans : scan-verdict ws t outputs ≡ done → {pointers table packs marks : List ℕ} → Repeated ws 1 t outputs pointers table packs marks → Scans ws t outputs done table packs
+  unfolding scan-table scan-outputs scans-table scans-outputs
+  scans e s =
+      let n : 1 * word ws 5 ≡ word ws 5 = omega arith in
+      record {
+        answers = sym e;
+        leaves-one = s .table-after ∙ sym (ap (λ (v : Verdict). cond (eqb (v .number) 0) (scanned ws t .table) t) e);
+        leaves-other =
+            s .outputs-after
+            ∙ ap₂ (λ (p : List ℕ) (m : ℕ). p ++ drop m outputs) (append-nil (map packed (scanned ws t .outs))) n
+            ∙ sym (ap (λ (v : Verdict). cond (eqb (v .number) 0) (map packed (scanned ws t .outs) ++ drop (word ws 5) outputs) outputs) e);
+      }
 
 -- ---- several scans
 abbrev pub Repeats : List ℕ → List ℕ → ℕ → List ℕ → List ℕ → Verdict → List ℕ → List ℕ → List ℕ → Type 0
@@ -165,3 +169,11 @@ module _ (ws t : List ℕ) (times : ℕ) (outputs pointers : List ℕ) where
         leaves-other = s .outputs-after ∙ sym (ap (λ (x : Verdict). cond (eqb (x .number) 0) (scans-outputs ws t times ++ drop (times * word ws 5) outputs) outputs) taken);
         leaves-last = s .pointers-after ∙ sym (ap (λ (x : Verdict). cond (eqb (x .number) 0) (scans-pointers ws t times ++ drop (times * word ws 5) pointers) pointers) taken);
       }
+
+-- one scan, with a list of 128 pointers
+pub one-scan : (ws t outputs pointers : List ℕ) {o : Opened} → o ≡ opened ws → o .verdict .number ≡ 0 → length t ≡ total (o .sizes) → o .count ≤ length outputs → length pointers ≡ 128
+    → Repeatable ws o t 1 outputs pointers
+unfolding opened
+one-scan ws t outputs pointers {o} e h l u v =
+    let few = accepts-exactly ws .0 (fine ws t outputs e h) .few in
+    repeatable ws t 1 outputs pointers e h l (omega (arith, u)) (omega (arith, few, v, ap (λ (x : Opened). x .count) e))

@@ -1,19 +1,20 @@
 -- The laws of inputs: contacts that lie in the table, an input by its code, and outputs that are packed. Assumes nothing.
-use mathlib.Core.Path.{_≡_, refl, sym, ap}
+use mathlib.Core.Path.{_≡_, refl, sym, ap, ap₂, _∙_, subst}
 use mathlib.Core.Bool.{Bool, true, false, not, cond}
-use mathlib.Core.List.{List, [], _∷_, _++_, map}
+use mathlib.Core.List.{List, [], _∷_, map}
 use Prim.Native.Nat.{ℕ, zero, suc, _+_, _-_, _*_, _≤_, _<_}
 use native.Mathlib.Omega.{arith}
 use lib.Dec.{eqb}
-use lib.ListN.{length, getD}
+use lib.ListN.{length, getD, take, drop, length-drop}
+use lib.Seq.{length-take-le}
 use Rattle.bits.specs.Bit.{bit}
 use Rattle.matrix.specs.Run.{longest}
 use Rattle.matrix.specs.Inner.{Accepted}
 use Rattle.network.specs.declared.sizes.Sizes.{Sizes}
 use Rattle.network.specs.declared.block.Input.{Input}
-use Rattle.network.specs.declared.block.Block.{Block}
 use Rattle.network.specs.Sound.{GoodInput}
 use Rattle.blocks.specs.declared.Power.{Power}
+use Rattle.scan.specs.declared.placed.Placed.{Placed}
 use Rattle.scan.specs.Input.{coil, discrete-input, no-power, of-block, passes}
 use Rattle.scan.specs.Scan.{packed, unpacked}
 use Rattle.scan.specs.Inner.{Contacts, GoodInputs, Next}
@@ -44,27 +45,20 @@ module _ (z : Sizes) (t : List ℕ) (earlier : ℕ) (input : Input) (h : Contact
         n .1,
       )
 
--- an earlier block stays one where more are earlier
-pub more-earlier : {z : Sizes} {k m : ℕ} {input : Input} → k ≤ m → GoodInput z k input → GoodInput z m input
-more-earlier l g = record {
-  known = g .known;
-  fixed = g .fixed;
-  coil = g .coil;
-  contact = g .contact;
-  block = λ c. let n = g .block c in (n .0, omega (arith, n .1, l));
-}
-
 -- what the next block needs for its inputs and its work
-module _ (z : Sizes) (b : Block) (t packs : List ℕ) (k : ℕ) (h : Next z b t packs k) where
+module _ (z : Sizes) (one : Placed) (t packs marks : List ℕ) (first k : ℕ) (h : Next z one t packs marks first k) where
   pub next-contacts : Contacts z t
   next-contacts = record { few-coils = h .few-coils; few-discretes = h .few-discretes; inside = omega (arith, h .runs .exact) }
 
-  pub next-inputs : GoodInputs z (length packs) (b .inputs)
-  next-inputs = record {
-    top-input = more-earlier (omega (arith, h .entry)) (h .runs .good .top-input);
-    middle-input = more-earlier (omega (arith, h .entry)) (h .runs .good .middle-input);
-    bottom-input = more-earlier (omega (arith, h .entry)) (h .runs .good .bottom-input);
-  }
+  -- the part of the list from the first entry on is as long as there are earlier blocks
+  pub next-inputs : {m : ℕ} → m ≡ k → GoodInputs z (length (take m (drop first packs))) (one .block .inputs)
+  next-inputs {m} e =
+      let long = length-take-le m (drop first packs) (omega (arith, h .entry, length-drop first packs, e)) in
+      subst (λ (n : ℕ). GoodInputs z n (one .block .inputs)) (sym (long ∙ e)) (record {
+        top-input = h .runs .good .top-input;
+        middle-input = h .runs .good .middle-input;
+        bottom-input = h .runs .good .bottom-input;
+      })
 
 -- ---- an input by its code
 unfoldable pub by-code : Sizes → List ℕ → List Power → ℕ → ℕ → Bool
@@ -125,32 +119,6 @@ unpacked-packed out = go (out .top) (out .middle) (out .bottom)
     go false false true = refl
     go false false false = refl
 
--- the outputs of an earlier block, whatever stands after them
-packed-at : (outs : List Power) (rest : List ℕ) (i : ℕ) → i < length outs → getD (map unpacked (map packed outs ++ rest)) i no-power ≡ getD outs i no-power
-packed-at [] rest i l = absurd (omega arith)
-packed-at (out ∷ outs) rest zero l = unpacked-packed out
-packed-at (out ∷ outs) rest (suc i) l = packed-at outs rest i (omega arith)
-
--- an input passes the same power, whether the earlier outputs are packed or not
-pub same-power : (z : Sizes) (t : List ℕ) (outs : List Power) (rest : List ℕ) (input : Input) → GoodInput z (length outs) input
-    → passes z t (map unpacked (map packed outs ++ rest)) input ≡ passes z t outs input
-unfolding by-code passes
-same-power z t outs rest input g = go (input .code) refl
-  where
-    packs : List Power
-    packs = map unpacked (map packed outs ++ rest)
-
-    there : 5 < input .code → of-block packs (input .number) ≡ of-block outs (input .number)
-    there l = let n = g .block l in packed-at outs rest (input .number - 1) (omega (arith, n .0, n .1))
-
-    go : (code : ℕ) → input .code ≡ code → by-code z t packs (input .number) code ≡ by-code z t outs (input .number) code
-    go zero e = refl
-    go (suc zero) e = refl
-    go (suc (suc zero)) e = refl
-    go (suc (suc (suc zero))) e = refl
-    go (suc (suc (suc (suc zero)))) e = refl
-    go (suc (suc (suc (suc (suc zero))))) e = refl
-    go (suc (suc (suc (suc (suc (suc zero)))))) e = ap (λ (out : Power). out .top) (there (omega arith))
-    go (suc (suc (suc (suc (suc (suc (suc zero))))))) e = ap (λ (out : Power). out .middle) (there (omega arith))
-    go (suc (suc (suc (suc (suc (suc (suc (suc zero)))))))) e = ap (λ (out : Power). out .bottom) (there (omega arith))
-    go (suc (suc (suc (suc (suc (suc (suc (suc (suc k))))))))) e = absurd (omega (arith, g .known))
+pub all-unpacked : (outs : List Power) → map unpacked (map packed outs) ≡ outs
+all-unpacked [] = refl
+all-unpacked (out ∷ outs) = ap₂ (λ (o : Power) (os : List Power). o ∷ os) (unpacked-packed out) (all-unpacked outs)

@@ -21,8 +21,8 @@ use Rattle.network.specs.declared.block.Coils.{Coils}
 use Rattle.network.specs.declared.block.Block.{Block}
 use Rattle.network.specs.declared.checker.Opened.{Opened}
 use Rattle.network.specs.Table.{most-coils, most-discretes, total}
-use Rattle.network.specs.Record.{word}
-use Rattle.network.specs.Check.{sizes-in, opened, checked}
+use Rattle.network.specs.Record.{word, block-at}
+use Rattle.network.specs.Check.{sizes-in, block-start, opened, checked}
 use Rattle.network.specs.Sound.{GoodInput}
 use Rattle.blocks.specs.declared.Power.{Power}
 use Rattle.blocks.specs.Kind.{kind-of}
@@ -30,10 +30,11 @@ use Rattle.blocks.specs.View.{first-word, seen}
 use Rattle.blocks.specs.Effect.{Effect, logic, compare, rotate, modify, sense}
 use Rattle.blocks.specs.Work.{pointer-node, matrix-put, one-word, effect-on, outputs, block-outputs, block-table}
 use Rattle.blocks.specs.Truths.{Runs}
+use Rattle.scan.specs.declared.placed.Placed.{Placed}
 use Rattle.scan.specs.declared.records.Numbers.{Numbers}
 use Rattle.scan.specs.Input.{power-on}
-use Rattle.scan.specs.Scan.{scanned, packed, unpacked, scan-verdict, scan-table, scan-outputs}
-use Rattle.scan.specs.Scans.{pointer-of, scan-pointers, scans-table, scans-outputs, scans-pointers}
+use Rattle.scan.specs.Scan.{packed, unpacked, scan-verdict, scan-table, scan-outputs}
+use Rattle.scan.specs.Scans.{pointer-of, scans-table, scans-outputs, scans-pointers}
 
 -- ---- pointers
 
@@ -93,11 +94,26 @@ pub record GoodCoils (z : Sizes) (coils : Coils) : Type 0 where
   pub middle-coil : coils .middle ≤ 16 * z .coils
   pub bottom-coil : coils .bottom ≤ 16 * z .coils
 
+-- the indexes are those of the nodes' first words
+pub record Lies (z : Sizes) (one : Placed) : Type 0 where
+  pub top-word : one .top ≡ first-word z (one .block .top)
+  pub middle-word : one .middle ≡ first-word z (one .block .middle)
+
 -- a block of a checked network, and a table of exactly its areas
-pub record Ready (z : Sizes) (b : Block) (t : List ℕ) : Type 0 where
+pub record Ready (z : Sizes) (one : Placed) (t : List ℕ) : Type 0 where
   pub earlier : ℕ
-  pub runs : Runs z earlier b t
+  pub runs : Runs z earlier (one .block) t
+  pub lies : Lies z one
   pub few-coils : z .coils ≤ most-coils
+
+-- of some network
+pub record Runnable (one : Placed) (t : List ℕ) : Type 0 where
+  pub sizes : Sizes
+  pub ready : Ready sizes one t
+
+-- what is true by whichever sizes a block lies there
+abbrev pub Whichever : Placed → List ℕ → (Sizes → Block → Type 0) → Type 0
+Whichever one t P = (z : Sizes) → Ready z one t → P z (one .block)
 
 -- the block's outputs, and its destination and pointer written
 abbrev pub Works : Sizes → Block → Power → List ℕ → Power → List ℕ → Type 0
@@ -118,34 +134,42 @@ pub record GoodInputs (z : Sizes) (earlier : ℕ) (inputs : Inputs) : Type 0 whe
 
 -- ---- the scan
 
--- block k + 1 of a checked network, its table, and a list with an entry for its outputs after those of k earlier blocks
-pub record Next (z : Sizes) (b : Block) (t packs : List ℕ) (k : ℕ) : Type 0 where
-  pub runs : Runs z k b t
+-- block k + 1 of a checked network, its table, and lists with an entry for it after those of the k earlier blocks of this scan, which
+-- stand from an entry on
+pub record Next (z : Sizes) (one : Placed) (t packs marks : List ℕ) (first k : ℕ) : Type 0 where
+  pub runs : Runs z k (one .block) t
+  pub lies : Lies z one
   pub few-coils : z .coils ≤ most-coils
   pub few-discretes : z .discretes ≤ most-discretes
-  pub entry : k < length packs
+  pub entry : first + k < length packs
+  pub mark-entry : first + k < length marks
 
--- the power on a block's inputs, where the outputs of the earlier blocks are packed
-abbrev pub power-of : Sizes → Block → List ℕ → List ℕ → Power
-power-of z b t packs = power-on z t (map unpacked packs) (b .inputs)
+-- the power on a block's inputs, where the outputs of the k earlier blocks are packed
+abbrev pub power-of : Sizes → Block → List ℕ → List ℕ → ℕ → ℕ → Power
+power-of z b t packs first k = power-on z t (map unpacked (take k (drop first packs))) (b .inputs)
 
 -- the table that the block leaves, and its outputs and its pointer in their entries
-pub record Ran (z : Sizes) (b : Block) (k : ℕ) (t packs marks table after marked : List ℕ) : Type 0 where
-  pub table-after : table ≡ block-table z b t (power-of z b t packs)
-  pub entry-after : after ≡ set packs k (packed (block-outputs z b t (power-of z b t packs)))
-  pub mark-after : marked ≡ set marks k (pointer-of z b (block-table z b t (power-of z b t packs)))
+pub record Ran (z : Sizes) (one : Placed) (first k : ℕ) (t packs marks table after marked : List ℕ) : Type 0 where
+  pub table-after : table ≡ block-table z (one .block) t (power-of z (one .block) t packs first k)
+  pub entry-after : after ≡ set packs (first + k) (packed (block-outputs z (one .block) t (power-of z (one .block) t packs first k)))
+  pub mark-after : marked ≡ set marks (first + k) (pointer-of z (one .block) table)
 
--- an opening of these words, and a table and outputs with which they are not refused
-pub record Scannable (ws : List ℕ) (o : Opened) (t outputs : List ℕ) : Type 0 where
+-- an opening of these words, which are accepted
+pub record Legible (ws : List ℕ) (o : Opened) : Type 0 where
   pub opens : o ≡ opened ws
-  pub taken : scan-verdict ws t outputs .number ≡ 0
+  pub accepted : checked ws .number ≡ 0
 
--- the table after the scan; the outputs of every block, and entries after the count as they were; and so its pointers, where a list
--- has room for them
-pub record Scanned (ws t outputs pointers table packs marks : List ℕ) : Type 0 where
-  pub table-after : table ≡ scanned ws t .table
-  pub outputs-after : packs ≡ map packed (scanned ws t .outs) ++ drop (word ws 5) outputs
-  pub pointers-after : word ws 5 ≤ length pointers → marks ≡ scan-pointers ws t ++ drop (word ws 5) pointers
+-- block k + 1 of a network, with the first words of its nodes
+abbrev pub placed-at : List ℕ → ℕ → Placed
+placed-at ws k = record {
+  block = block-at ws (block-start k);
+  top = first-word (sizes-in ws) (block-at ws (block-start k) .top);
+  middle = first-word (sizes-in ws) (block-at ws (block-start k) .middle);
+}
+
+-- a list that has every block of a network in its entry
+abbrev pub Places : List ℕ → List Placed → Type 0
+Places ws blocks = (k : ℕ) → k < word ws 5 → (otherwise : Placed) → getD blocks k otherwise ≡ placed-at ws k
 
 -- ---- several scans
 

@@ -2,26 +2,27 @@
 // earlier outputs.
 //
 // A scan takes any words, any table and any outputs. It does its work, or it refuses with document 01's number and place and
-// changes nothing. The functions of the kinds are private: they work on the records of a network that was checked before, so
-// that no record is judged again at every scan.
+// changes nothing. The functions of the kinds are private: they work on the records of a network that was checked and read
+// before, so that no record is judged or read again at every scan.
 mod block;
 mod coil;
 mod compare;
 mod input;
+mod placed;
 mod pointer;
 mod records;
 mod repeat;
 mod single;
 mod whole;
 
-use crate::block::mark;
+use crate::block::pointer_of;
 use crate::block::run;
 use crate::input::power_on;
+use crate::placed::Placed;
+use crate::repeat::run_times;
 use bits::Verdict;
 use blocks::Power;
-use network::Block;
 use network::Opened;
-use network::Read;
 use network::Sizes;
 pub use records::Outputs;
 pub use records::scan;
@@ -30,7 +31,7 @@ ghost use mathlib.Core.Path.{_≡_};
 ghost use Rattle.bits.specs.Promise.{LeavesTwo};
 ghost use Rattle.network.specs.Check.{opened};
 ghost use Rattle.scan.specs.Scan.{packed, scan-verdict, scan-table, scan-outputs};
-ghost use Rattle.scan.specs.Inner.{Next, Ran, Scannable, Scanned};
+ghost use Rattle.scan.specs.Inner.{Next, Ran};
 
 // Three outputs as one number: top is worth 1, middle 2, bottom 4.
 fn packed(out: Power) -> u16
@@ -39,45 +40,27 @@ fn packed(out: Power) -> u16
     out.top as u16 + 2 * out.middle as u16 + 4 * out.bottom as u16
 }
 
-// One block: the power on its inputs, its work, its outputs and its pointer into entry k of the lists.
+// One block: the power on its inputs, with the outputs of the scan's k earlier blocks, which stand from entry `first` on; its work; its
+// outputs and its pointer into the entry after theirs.
 fn run_one(
     table: &mut [u16],
     outputs: &mut [u16],
     pointers: &mut [u16],
     sizes: Sizes,
-    block: Block,
+    one: Placed,
+    first: usize,
     k: usize,
 )
-    requires { ⌜ Next sizes block (now table) (now outputs) k ⌝ }
+    requires { ⌜ Next sizes one (now table) (now outputs) (now pointers) first k ⌝ }
     ensures { λ _. ⌜
-        Ran sizes block k
+        Ran sizes one first k
         (now (table .entry)) (now (outputs .entry)) (now (pointers .entry))
         (now (table .exit)) (now (outputs .exit)) (now (pointers .exit)) ⌝ }
 {
-    let on = power_on(table, outputs, sizes, block.inputs);
-    outputs[k] = packed(run(table, sizes, block, on));
-    mark(table, pointers, sizes, block, k);
-}
-
-// Every block of an opened network in order; their outputs go to the front of a list, and so do their pointers where a list is lent
-// for them.
-fn run_all(words: &[u16], o: Opened, table: &mut [u16], outputs: &mut [u16], pointers: &mut [u16])
-    requires { ⌜ Scannable (now words) o (now table) (now outputs) ⌝ }
-    ensures { λ _. ⌜
-        Scanned (now (words .entry))
-        (now (table .entry)) (now (outputs .entry)) (now (pointers .entry))
-        (now (table .exit)) (now (outputs .exit)) (now (pointers .exit)) ⌝ }
-{
-    let sizes = o.sizes;
-    let count = o.count as usize;
-    let mut k = 0;
-    while k < count {
-        let Read::Record(block) = network::record_at(words, o, k + 1) else {
-            return;
-        };
-        run_one(table, outputs, pointers, sizes, block, k);
-        k += 1;
-    }
+    let entry = first + k;
+    let on = power_on(table, &outputs[first..entry], sizes, one.block.inputs);
+    outputs[entry] = packed(run(table, sizes, one, on));
+    pointers[entry] = pointer_of(table, one);
 }
 
 // One scan of an opened network, or its refusal.
@@ -104,8 +87,8 @@ fn scan_opened(words: &[u16], o: Opened, table: &mut [u16], outputs: &mut [u16])
     if outputs.len() < o.count as usize {
         return short;
     }
-    let mut no_pointers = [0u16; 0];
-    run_all(words, o, table, outputs, &mut no_pointers);
+    let mut pointers = [0u16; 128];
+    run_times(words, o, table, 1, outputs, &mut pointers);
     Verdict {
         number: 0,
         place: 0,

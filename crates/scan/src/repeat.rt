@@ -1,13 +1,15 @@
 // Several scans, one after the other.
-use crate::run_all;
+use crate::placed::blocks_of;
+use crate::run_one;
 use bits::Verdict;
 use network::Opened;
 ghost use Rattle.bits.specs.Promise.{LeavesThree};
 ghost use Rattle.scan.specs.Scans.{scans-verdict, scans-left, scans-packed, scans-marked};
 ghost use Rattle.scan.specs.Inner.{Repeatable, Repeated};
 
-// So many scans of an opened network, one after the other.
-fn run_times(
+// So many scans of an opened network, one after the other: every block of each in order. Their outputs and their pointers go to the
+// front of the lists.
+pub(crate) fn run_times(
     words: &[u16],
     o: Opened,
     table: &mut [u16],
@@ -21,19 +23,18 @@ fn run_times(
         (now (table .entry)) (now (outputs .entry)) (now (pointers .entry))
         (now (table .exit)) (now (outputs .exit)) (now (pointers .exit)) ⌝ }
 {
+    let blocks = blocks_of(words, o);
+    let sizes = o.sizes;
     let count = o.count as usize;
     let scans = times as usize;
     let mut j = 0;
     while j < scans {
-        let at = j * count;
-        let next = at + count;
-        run_all(
-            words,
-            o,
-            table,
-            &mut outputs[at..next],
-            &mut pointers[at..next],
-        );
+        let first = j * count;
+        let mut k = 0;
+        while k < count {
+            run_one(table, outputs, pointers, sizes, blocks[k], first, k);
+            k += 1;
+        }
         j += 1;
     }
 }

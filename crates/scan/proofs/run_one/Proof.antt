@@ -1,28 +1,69 @@
 -- `scan::run_one` meets its contract. Assumes nothing.
-use mathlib.Core.Path.{ap, _∙_}
-use mathlib.Core.List.{List}
-use Prim.Native.Nat.{ℕ}
+use mathlib.Core.Path.{_≡_, ap, _∙_}
+use mathlib.Core.List.{map}
+use Prim.Native.Nat.{ℕ, _+_, _-_}
+use native.Mathlib.Omega.{arith}
 use borrow.Author.Needs.{needs}
 use denote.Ref.{now}
-use lib.ListN.{length, set}
+use lib.ListN.{length, take, drop, set}
 use Rattle.blocks.specs.Work.{block-outputs, block-table}
 use Rattle.blocks.proofs.Written.{same-long}
-use Rattle.scan.specs.Scan.{packed}
-use Rattle.scan.specs.Scans.{pointer-of}
+use Rattle.scan.specs.Input.{power-on}
+use Rattle.scan.specs.Scan.{packed, unpacked}
+use Rattle.scan.specs.Inner.{Ready}
 use Rattle.scan.proofs.Wired.{next-contacts, next-inputs}
 use Rattle.scan.proofs.run_one.Statement.{statement}
 use Rattle.scan.proofs.run_one.Tie as tie
 
+-- as many earlier entries as there are earlier blocks
+so-many : (first k : ℕ) → first + k - first ≡ k
+so-many first k = omega arith
+
+-- the block and the table that it left
+ran-ready : (c : tie.After-run) → let x = c .before .before .before .before .before .before .before .before .before .args in Ready (x .sizes) (x .one) (c .run .last .0)
+ran-ready c =
+    let b = c .before .before .before .before .before .before .before .before .before in
+    let x = b .args in
+    record {
+      earlier = x .k;
+      runs = record {
+        good = b .pre .runs .good;
+        exact =
+            ap length (c .run .ensures .leaves)
+            ∙ same-long (x .sizes) (x .k) (x .one .block) (now (x .table)) (b .pre .runs) (c .before .before .power-on .result)
+            ∙ b .pre .runs .exact;
+      };
+      lies = b .pre .lies;
+      few-coils = b .pre .few-coils;
+    }
+
+add-entry : tie.Need-add-entry
+add-entry c = search needs
+
+mul-power-on : tie.Need-mul-power-on
+mul-power-on c = search needs
+
+sub-power-on : tie.Need-sub-power-on
+sub-power-on c = search needs
+
+part-power-on-start : tie.Need-part-power-on-start
+part-power-on-start c = search needs
+
+part-power-on-end : tie.Need-part-power-on-end
+part-power-on-end c = search needs
+
 power-on-requires : tie.Need-power-on-requires
 power-on-requires c κs =
-    let b = c .before .before .before .before .before in
+    let b = c .before .before .before .before .before .before in
     let x = b .args in (
-      next-contacts (x .sizes) (x .block) (now (x .table)) (now (x .outputs)) (x .k) (b .pre),
-      next-inputs (x .sizes) (x .block) (now (x .table)) (now (x .outputs)) (x .k) (b .pre),
+      next-contacts (x .sizes) (x .one) (now (x .table)) (now (x .outputs)) (now (x .pointers)) (x .first) (x .k) (b .pre),
+      next-inputs (x .sizes) (x .one) (now (x .table)) (now (x .outputs)) (now (x .pointers)) (x .first) (x .k) (b .pre) (so-many (x .first) (x .k)),
     )
 
 run-requires : tie.Need-run-requires
-run-requires c κs = search needs
+run-requires c κs =
+    let b = c .before .before .before .before .before .before .before .before in
+    record { earlier = b .args .k; runs = b .pre .runs; lies = b .pre .lies; few-coils = b .pre .few-coils }
 
 packed-requires : tie.Need-packed-requires
 packed-requires c κs = search needs
@@ -33,22 +74,16 @@ mul-outputs c = search needs
 slice-write-outputs : tie.Need-slice-write-outputs
 slice-write-outputs c = search needs
 
-mark-requires : tie.Need-mark-requires
-mark-requires c κs =
-    let ran = c .before .before .before .before .before in
-    let b = ran .before .before .before .before .before .before .before .before in
-    let x = b .args in
-    record {
-      earlier = x .k;
-      runs = record {
-        good = b .pre .runs .good;
-        exact =
-            ap length (ran .run .ensures .leaves)
-            ∙ same-long (x .sizes) (x .k) (x .block) (now (x .table)) (b .pre .runs) (ran .before .before .power-on .result)
-            ∙ b .pre .runs .exact;
-      };
-      few-coils = b .pre .few-coils;
-    }
+pointer-of-requires : tie.Need-pointer-of-requires
+pointer-of-requires c κs =
+    let ran = c .before .before .before .before in
+    record { sizes = ran .before .before .before .before .before .before .before .before .before .args .sizes; ready = ran-ready ran }
+
+mul-pointers : tie.Need-mul-pointers
+mul-pointers c = search needs
+
+slice-write-pointers : tie.Need-slice-write-pointers
+slice-write-pointers c = search needs
 
 same-length : tie.Need-same-length
 same-length c = search needs
@@ -61,29 +96,37 @@ same-length-3 c = search needs
 
 returns : tie.Need-returns
 returns c =
-    let ran = c .before .before .before .before .before .before .before .before in
-    let on = ran .before .before .power-on .ensures in
-    let x = ran .before .before .before .before .before .before .before .before .args in
+    let ran = c .before .before .before .before .before in
+    let x = ran .before .before .before .before .before .before .before .before .before .args in
     let t = now (x .table) in
-    let left = ran .run .ensures .leaves ∙ ap (block-table (x .sizes) (x .block) t) on in
+    let on =
+    ran .before .before .power-on .ensures
+    ∙ ap (λ (m : ℕ). power-on (x .sizes) t (map unpacked (take m (drop (x .first) (now (x .outputs))))) (x .one .block .inputs)) (so-many (x .first) (x .k)) in
     record {
-      table-after = left;
+      table-after = ran .run .ensures .leaves ∙ ap (block-table (x .sizes) (x .one .block) t) on;
       entry-after =
-          ap (set (now (x .outputs)) (x .k))
-          (c .before .before .before .before .before .packed .ensures ∙ ap packed (ran .run .ensures .answers ∙ ap (block-outputs (x .sizes) (x .block) t) on));
-      mark-after = c .before .before .mark .ensures ∙ ap (λ (u : List ℕ). set (now (x .pointers)) (x .k) (pointer-of (x .sizes) (x .block) u)) left;
+          ap (set (now (x .outputs)) (x .first + x .k))
+          (c .before .before .packed .ensures ∙ ap packed (ran .run .ensures .answers ∙ ap (block-outputs (x .sizes) (x .one .block) t) on));
+      mark-after = ap (set (now (x .pointers)) (x .first + x .k)) (c .pointer-of .ensures (x .sizes) (ran-ready ran));
     }
 
 pub run-one-spec : {M : Type 1} → statement M
 run-one-spec =
     tie.close
     (tie.spec
+    add-entry
+    mul-power-on
+    sub-power-on
+    part-power-on-start
+    part-power-on-end
     power-on-requires
     run-requires
     packed-requires
     mul-outputs
     slice-write-outputs
-    mark-requires
+    pointer-of-requires
+    mul-pointers
+    slice-write-pointers
     same-length
     same-length-2
     same-length-3

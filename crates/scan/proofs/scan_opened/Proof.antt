@@ -1,11 +1,12 @@
 -- `scan::scan_opened` meets its contract: the refusals in their order, then every block. Assumes nothing.
-use mathlib.Core.Path.{_≡_, sym, ap, _∙_}
+use mathlib.Core.Path.{_≡_, sym, _∙_}
+use Prim.Native.Nat.{ℕ}
 use borrow.Author.Needs.{needs}
 use denote.Ref.{now}
-use Rattle.bits.specs.declared.Verdict.{Verdict}
+use lib.ListN.{replicate, length-replicate}
 use Rattle.network.specs.Check.{done}
 use Rattle.scan.specs.Scan.{scan-verdict}
-use Rattle.scan.proofs.Verdicts.{refused-words, refused-table, refused-outputs, not-refused, scans}
+use Rattle.scan.proofs.Verdicts.{refused-words, refused-table, refused-outputs, not-refused, scans, one-scan}
 use Rattle.scan.proofs.scan_opened.Statement.{statement}
 use Rattle.scan.proofs.scan_opened.Tie as tie
 
@@ -43,11 +44,15 @@ returns-3 c =
     let o = c .before .before .before .before .before .before .before .before .before .before .pre in
     refused-outputs (now (x .words)) (now (x .table)) (now (x .outputs)) o (c .before .before .before .before .if1 .left) (c .before .before .if2 .left ∙ c .before .before .before .total .ensures) (c .if3 .taken)
 
-slice-aggregate-run-all : tie.Need-slice-aggregate-run-all
-slice-aggregate-run-all c = search needs
+slice-aggregate-run-times : tie.Need-slice-aggregate-run-times
+slice-aggregate-run-times c = search needs
 
-run-all-requires : tie.Need-run-all-requires
-run-all-requires c κs = record { opens = c .before .before .before .before .before .before .before .before .before .before .before .before .before .pre; taken = ap (λ (v : Verdict). v .number) (taken (c .before .before .before)) }
+run-times-requires : tie.Need-run-times-requires
+run-times-requires c κs =
+    let last = c .before .before .before in
+    let b = last .before .before .before .before .before .before .before .before .before .before in
+    one-scan (now (b .args .words)) (now (b .args .table)) (now (b .args .outputs)) (replicate 128 0) (b .pre)
+    (last .before .before .before .before .if1 .left) (last .before .before .if2 .left ∙ last .before .before .before .total .ensures) (last .if3 .left) (length-replicate {A = ℕ} 128 0)
 
 same-length : tie.Need-same-length
 same-length c = search needs
@@ -58,7 +63,7 @@ same-length-2 c = search needs
 returns-4 : tie.Need-returns-4
 returns-4 c =
     let x = c .before .before .before .before .before .before .before .before .before .before .before .before .before .before .before .before .before .before .before .args in
-    scans (now (x .words)) (now (x .table)) (now (x .outputs)) (taken (c .before .before .before .before .before .before .before .before .before)) (c .before .before .before .before .before .run-all .ensures)
+    scans (now (x .words)) (now (x .table)) (now (x .outputs)) (taken (c .before .before .before .before .before .before .before .before .before)) (c .before .before .before .before .before .run-times .ensures)
 
 pub scan-opened-spec : {M : Type 1} → statement M
 scan-opened-spec =
@@ -70,8 +75,8 @@ scan-opened-spec =
     returns-2
     cast-if3
     returns-3
-    slice-aggregate-run-all
-    run-all-requires
+    slice-aggregate-run-times
+    run-times-requires
     same-length
     same-length-2
     returns-4)

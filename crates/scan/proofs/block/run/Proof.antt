@@ -9,7 +9,7 @@ use Rattle.scan.proofs.block.run.Statement.{statement}
 use Rattle.scan.proofs.block.run.Tie as tie
 
 work-requires : tie.Need-work-requires
-work-requires c κs = search needs
+work-requires c κs = record { sizes = c .before .before .args .sizes; ready = c .before .before .pre }
 
 put-coils-requires : tie.Need-put-coils-requires
 put-coils-requires c κs = search needs
@@ -21,12 +21,14 @@ returns : tie.Need-returns
 unfolding block-outputs block-table
 returns c =
     let done = c .before .before .before .before .before .before in
-    let x = done .before .before .before .args in
+    let b = done .before .before .before in
+    let x = b .args in
+    let did = done .work .ensures (x .sizes) (b .pre) in
     record {
-      answers = done .work .ensures .answers;
+      answers = did .answers;
       leaves =
           c .before .before .put-coils .ensures
-          ∙ ap₂ (λ (out : Power) (u : List ℕ). coils-put (x .sizes) (x .block .coils) out u) (done .work .ensures .answers) (done .work .ensures .leaves);
+          ∙ ap₂ (λ (out : Power) (u : List ℕ). coils-put (x .sizes) (x .one .block .coils) out u) (did .answers) (did .leaves);
     }
 
 pub run-spec : {M : Type 1} → statement M

@@ -1,180 +1,158 @@
--- `scan::repeat::run_times` meets its contract. The loop keeps that the table and the lists are those after j scans. Assumes nothing.
-use mathlib.Core.Path.{_≡_, refl, sym, ap, ap₂, _∙_, subst}
-use Prim.Native.Nat.{ℕ, _+_, _-_, _*_, _≤_}
+-- `scan::repeat::run_times` meets its contract. The loops keep that the table and the lists are those after j scans and k blocks. Assumes nothing.
+use mathlib.Core.Path.{_≡_, ap, subst}
+use Prim.Native.Nat.{ℕ, _+_, _-_, _*_, _≤_, _<_}
 use native.Mathlib.Omega.{arith}
 use borrow.Author.Needs.{needs}
 use denote.Ref.{now}
-use lib.ListN.{length, take, drop}
+use lib.ListN.{length}
 use Rattle.network.specs.declared.checker.Opened.{Opened}
 use Rattle.network.specs.Record.{word}
-use Rattle.network.specs.Check.{opened, checked}
+use Rattle.network.specs.Check.{opened, sizes-in}
 use Rattle.network.proofs.Accepted.{accepts-exactly}
-use Rattle.scan.proofs.Repeating.{SoMany, none-yet, table-long, packs-long, marks-long, packs-part, marks-part, next-taken, one-more, all-run, next-room, room-before}
+use Rattle.scan.proofs.Repeating.{next-room, room-before}
+use Rattle.scan.proofs.Walking.{SoFar, Onward, none-run, table-long, packs-long, marks-long, next-ready, one-more, scan-done, all-run}
 use Rattle.scan.proofs.repeat.run_times.Statement.{statement}
 use Rattle.scan.proofs.repeat.run_times.Tie as tie
 
+abbrev Inv-loop2 : tie.InvT-loop2
+Inv-loop2 words table₀ times outputs₀ pointers₀ blocks sizes count scans j first k₀ table outputs pointers k =
+    Onward words j table₀ outputs₀ pointers₀ k table outputs pointers
+
+abbrev μ-loop2 : tie.MeasureT-loop2
+μ-loop2 words table₀ times outputs₀ pointers₀ blocks sizes count scans j first k₀ table outputs pointers k = count - k
+
 abbrev Inv-loop : tie.InvT-loop
-Inv-loop words o table₀ times outputs₀ pointers₀ count scans j₀ table outputs pointers j =
-    (o ≡ opened words) × (count ≡ word words 5) × (checked words .number ≡ 0) × (times * word words 5 ≤ length outputs₀) × (times * word words 5 ≤ length pointers₀)
-    × (scans ≡ times) × (j ≤ scans) × SoMany words table₀ outputs₀ pointers₀ j table outputs pointers
+Inv-loop words table₀ times outputs₀ pointers₀ blocks sizes count scans j₀ table outputs pointers j =
+    (j ≤ scans) × SoFar words table₀ outputs₀ pointers₀ j 0 table outputs pointers
 
 abbrev μ-loop : tie.MeasureT-loop
-μ-loop words o table₀ times outputs₀ pointers₀ count scans j₀ table outputs pointers j = scans - j
+μ-loop words table₀ times outputs₀ pointers₀ blocks sizes count scans j₀ table outputs pointers j = scans - j
 
--- the next scan's part of the outputs, and of the pointers, lies in the list that was lent, and so in the list as it is now
-module _ (c : tie.In-loop Inv-loop μ-loop) where
-  outputs-room : c .before .loop .j * c .before .before .before .before .before .before .before .args .o .count + c .before .before .before .before .before .before .before .args .o .count ≤ length (now (c .before .before .before .before .before .before .before .args .outputs))
-  outputs-room =
-      let v = c .before .loop .inv in
-      subst (λ (n : ℕ). c .before .loop .j * n + n ≤ length (now (c .before .before .before .before .before .before .before .args .outputs))) (sym (v .1))
-      (next-room (c .before .loop .j) (c .before .before .before .before .before .before .before .args .times) (word (now (c .before .before .before .before .before .before .before .args .words)) 5) (length (now (c .before .before .before .before .before .before .before .args .outputs))) (c .loop-test .taken) (v .3))
+-- the count and the sizes are those that the words spell
+module _ (s : tie.Start Inv-loop2 μ-loop2 Inv-loop μ-loop) where
+  count-is : s .args .o .count ≡ word (now (s .args .words)) 5
+  unfolding opened
+  count-is = ap (λ (o : Opened). o .count) (s .pre .opens)
 
-  pointers-room : c .before .loop .j * c .before .before .before .before .before .before .before .args .o .count + c .before .before .before .before .before .before .before .args .o .count ≤ length (now (c .before .before .before .before .before .before .before .args .pointers))
-  pointers-room =
-      let v = c .before .loop .inv in
-      subst (λ (n : ℕ). c .before .loop .j * n + n ≤ length (now (c .before .before .before .before .before .before .before .args .pointers))) (sym (v .1))
-      (next-room (c .before .loop .j) (c .before .before .before .before .before .before .before .args .times) (word (now (c .before .before .before .before .before .before .before .args .words)) 5) (length (now (c .before .before .before .before .before .before .before .args .pointers))) (c .loop-test .taken) (v .4))
+  sizes-are : s .args .o .sizes ≡ sizes-in (now (s .args .words))
+  unfolding opened
+  sizes-are = ap (λ (o : Opened). o .sizes) (s .pre .opens)
 
-  outputs-fit : c .before .loop .j * c .before .before .before .before .before .before .before .args .o .count + c .before .before .before .before .before .before .before .args .o .count ≤ length (c .before .loop .outputs)
-  outputs-fit =
-      let v = c .before .loop .inv in
-      let same = packs-long (v .7) (room-before (c .before .loop .j) (c .before .before .before .before .before .before .before .args .times) (word (now (c .before .before .before .before .before .before .before .args .words)) 5) (length (now (c .before .before .before .before .before .before .before .args .outputs))) (v .6) (v .3)) in
-      subst (λ (n : ℕ). c .before .loop .j * c .before .before .before .before .before .before .before .args .o .count + c .before .before .before .before .before .before .before .args .o .count ≤ n) (sym same) outputs-room
+-- the next scan's entries lie in the lists
+module _ (c : tie.In-loop Inv-loop2 μ-loop2 Inv-loop μ-loop) where
+  outputs-room : c .before .loop .j * word (now (c .before .before .before .before .before .before .before .before .before .args .words)) 5 + word (now (c .before .before .before .before .before .before .before .before .before .args .words)) 5 ≤ length (now (c .before .before .before .before .before .before .before .before .before .args .outputs))
+  outputs-room = next-room (c .before .loop .j) (c .before .before .before .before .before .before .before .before .before .args .times) (word (now (c .before .before .before .before .before .before .before .before .before .args .words)) 5) (length (now (c .before .before .before .before .before .before .before .before .before .args .outputs))) (c .loop-test .taken) (c .before .before .before .before .before .before .before .before .before .pre .outputs-room)
 
-  pointers-fit : c .before .loop .j * c .before .before .before .before .before .before .before .args .o .count + c .before .before .before .before .before .before .before .args .o .count ≤ length (c .before .loop .pointers)
-  pointers-fit =
-      let v = c .before .loop .inv in
-      let same = marks-long (v .7) (room-before (c .before .loop .j) (c .before .before .before .before .before .before .before .args .times) (word (now (c .before .before .before .before .before .before .before .args .words)) 5) (length (now (c .before .before .before .before .before .before .before .args .pointers))) (v .6) (v .4)) in
-      subst (λ (n : ℕ). c .before .loop .j * c .before .before .before .before .before .before .before .args .o .count + c .before .before .before .before .before .before .before .args .o .count ≤ n) (sym same) pointers-room
+  pointers-room : c .before .loop .j * word (now (c .before .before .before .before .before .before .before .before .before .args .words)) 5 + word (now (c .before .before .before .before .before .before .before .before .before .args .words)) 5 ≤ length (now (c .before .before .before .before .before .before .before .before .before .args .pointers))
+  pointers-room = next-room (c .before .loop .j) (c .before .before .before .before .before .before .before .before .before .args .times) (word (now (c .before .before .before .before .before .before .before .before .before .args .words)) 5) (length (now (c .before .before .before .before .before .before .before .before .before .args .pointers))) (c .loop-test .taken) (c .before .before .before .before .before .before .before .before .before .pre .pointers-room)
 
-  -- where it starts, and how long it is
-  at-is : c .before .loop .j * c .before .before .before .before .before .before .before .args .o .count ≡ c .before .loop .j * word (now (c .before .before .before .before .before .before .before .args .words)) 5
-  at-is = ap (λ (n : ℕ). c .before .loop .j * n) (c .before .loop .inv .1)
+  -- where they start
+  first-is : c .before .loop .j * c .before .before .before .before .before .before .before .before .before .args .o .count ≡ c .before .loop .j * word (now (c .before .before .before .before .before .before .before .before .before .args .words)) 5
+  first-is = ap (λ (n : ℕ). c .before .loop .j * n) (count-is (c .before .before .before .before .before .before .before .before .before))
 
-  long-is : c .before .loop .j * c .before .before .before .before .before .before .before .args .o .count + c .before .before .before .before .before .before .before .args .o .count - c .before .loop .j * c .before .before .before .before .before .before .before .args .o .count ≡ word (now (c .before .before .before .before .before .before .before .args .words)) 5
-  long-is = omega (arith, c .before .loop .inv .1)
+-- the next block
+module _ (c : tie.In-loop2 Inv-loop2 μ-loop2 Inv-loop μ-loop) where
+  below : c .before .loop2 .k < word (now (c .before .before .before .before .before .before .before .before .before .before .before .args .words)) 5
+  below = subst (λ (n : ℕ). c .before .loop2 .k < n) (count-is (c .before .before .before .before .before .before .before .before .before .before .before)) (c .loop2-test .taken)
 
-  outputs-part : length (take (c .before .loop .j * c .before .before .before .before .before .before .before .args .o .count + c .before .before .before .before .before .before .before .args .o .count - c .before .loop .j * c .before .before .before .before .before .before .before .args .o .count) (drop (c .before .loop .j * c .before .before .before .before .before .before .before .args .o .count) (c .before .loop .outputs)))
-      ≡ word (now (c .before .before .before .before .before .before .before .args .words)) 5
-  outputs-part =
-      ap₂ (λ (k a : ℕ). length (take k (drop a (c .before .loop .outputs)))) long-is at-is
-      ∙ packs-part (c .before .loop .inv .7) (subst (λ (n : ℕ). c .before .loop .j * n + n ≤ length (now (c .before .before .before .before .before .before .before .args .outputs))) (c .before .loop .inv .1) outputs-room)
+  few : c .before .loop2 .k < 128
+  few = omega (arith, below, accepts-exactly (now (c .before .before .before .before .before .before .before .before .before .before .before .args .words)) .0 (c .before .before .before .before .before .before .before .before .before .before .before .pre .accepted) .few)
 
-  pointers-part : length (take (c .before .loop .j * c .before .before .before .before .before .before .before .args .o .count + c .before .before .before .before .before .before .before .args .o .count - c .before .loop .j * c .before .before .before .before .before .before .before .args .o .count) (drop (c .before .loop .j * c .before .before .before .before .before .before .before .args .o .count) (c .before .loop .pointers)))
-      ≡ word (now (c .before .before .before .before .before .before .before .args .words)) 5
-  pointers-part =
-      ap₂ (λ (k a : ℕ). length (take k (drop a (c .before .loop .pointers)))) long-is at-is
-      ∙ marks-part (c .before .loop .inv .7) (subst (λ (n : ℕ). c .before .loop .j * n + n ≤ length (now (c .before .before .before .before .before .before .before .args .pointers))) (c .before .loop .inv .1) pointers-room)
+  so-far : SoFar (now (c .before .before .before .before .before .before .before .before .before .before .before .args .words)) (now (c .before .before .before .before .before .before .before .before .before .before .before .args .table)) (now (c .before .before .before .before .before .before .before .before .before .before .before .args .outputs)) (now (c .before .before .before .before .before .before .before .before .before .before .before .args .pointers))
+      (c .before .before .before .loop .j) (c .before .loop2 .k) (c .before .loop2 .table) (c .before .loop2 .outputs) (c .before .loop2 .pointers)
+  so-far = c .before .loop2 .inv _ _ _ (outputs-room (c .before .before)) (pointers-room (c .before .before)) (c .before .before .before .loop .inv .1)
 
-cast-count : tie.Need-cast-count Inv-loop μ-loop
+blocks-of-requires : tie.Need-blocks-of-requires Inv-loop2 μ-loop2 Inv-loop μ-loop
+blocks-of-requires c κs = let b = c .before .before .before .before in record { opens = b .pre .opens; accepted = b .pre .accepted }
+
+cast-count : tie.Need-cast-count Inv-loop2 μ-loop2 Inv-loop μ-loop
 cast-count c = search needs
 
-loop-holds : tie.Need-loop-holds Inv-loop μ-loop
-unfolding opened
+loop-holds : tie.Need-loop-holds Inv-loop2 μ-loop2 Inv-loop μ-loop
 loop-holds c =
-    let b = c .before .before .before .before .before in (
-      b .pre .opens,
-      ap (λ (o : Opened). o .count) (b .pre .opens),
-      b .pre .accepted,
-      b .pre .outputs-room,
-      b .pre .pointers-room,
-      refl,
-      omega arith,
-      none-yet (accepts-exactly (now (b .args .words)) .0 (b .pre .accepted)) (b .pre .exact),
-    )
+    let b = c .before .before .before .before .before .before .before in
+    (omega arith, none-run (accepts-exactly (now (b .args .words)) .0 (b .pre .accepted)) (b .pre .exact))
 
-mul-at : tie.Need-mul-at Inv-loop μ-loop
-mul-at c = let h = outputs-room c in omega arith
+mul-first : tie.Need-mul-first Inv-loop2 μ-loop2 Inv-loop μ-loop
+mul-first c = let h = outputs-room c in let e = first-is c in omega arith
 
-add-next : tie.Need-add-next Inv-loop μ-loop
-add-next c = let h = outputs-room c in omega arith
+loop2-holds : tie.Need-loop2-holds Inv-loop2 μ-loop2 Inv-loop μ-loop
+loop2-holds c = λ t outputs pointers u v h. h
 
-mul-run-all : tie.Need-mul-run-all Inv-loop μ-loop
-mul-run-all c = let h = outputs-room (c .before) in omega arith
+mul-run-one : tie.Need-mul-run-one Inv-loop2 μ-loop2 Inv-loop μ-loop
+mul-run-one c = let l = few (c .before .before .before) in omega arith
 
-sub-run-all : tie.Need-sub-run-all Inv-loop μ-loop
-sub-run-all c = omega arith
+array-copy-out-run-one : tie.Need-array-copy-out-run-one Inv-loop2 μ-loop2 Inv-loop μ-loop
+array-copy-out-run-one c = few (c .before .before .before)
 
-part-run-all-start : tie.Need-part-run-all-start Inv-loop μ-loop
-part-run-all-start c = omega arith
+run-one-requires : tie.Need-run-one-requires Inv-loop2 μ-loop2 Inv-loop μ-loop
+run-one-requires c κs =
+    let inside = c .before .before .before .before in
+    let scan = inside .before .before in
+    next-ready (so-far inside) (below inside) (outputs-room scan) (pointers-room scan) (sizes-are (inside .before .before .before .before .before .before .before .before .before .before .before)) (scan .before .before .before .before .blocks-of .ensures (inside .before .loop2 .k) (below inside) _) (first-is scan)
 
-part-run-all-end : tie.Need-part-run-all-end Inv-loop μ-loop
-part-run-all-end c = outputs-fit (c .before)
+add-k : tie.Need-add-k Inv-loop2 μ-loop2 Inv-loop μ-loop
+add-k c = search needs
 
-mul-run-all-2 : tie.Need-mul-run-all-2 Inv-loop μ-loop
-mul-run-all-2 c = let h = pointers-room (c .before .before) in omega arith
+loop2-less : tie.Need-loop2-less Inv-loop2 μ-loop2 Inv-loop μ-loop
+loop2-less c = search needs
 
-sub-run-all-2 : tie.Need-sub-run-all-2 Inv-loop μ-loop
-sub-run-all-2 c = omega arith
+loop2-again : tie.Need-loop2-again Inv-loop2 μ-loop2 Inv-loop μ-loop
+loop2-again c =
+    let ran = c .before .before .before .before .before .before in
+    let inside = ran .before .before .before .before .before in
+    let scan = inside .before .before in
+    λ t outputs pointers u v h. one-more (inside .before .loop2 .inv t outputs pointers u v h) (below inside) u v (sizes-are (inside .before .before .before .before .before .before .before .before .before .before .before)) (scan .before .before .before .before .blocks-of .ensures (inside .before .loop2 .k) (below inside) _) (first-is scan) (ran .run-one .ensures)
 
-part-run-all-start-2 : tie.Need-part-run-all-start-2 Inv-loop μ-loop
-part-run-all-start-2 c = omega arith
-
-part-run-all-end-2 : tie.Need-part-run-all-end-2 Inv-loop μ-loop
-part-run-all-end-2 c = pointers-fit (c .before .before)
-
-run-all-requires : tie.Need-run-all-requires Inv-loop μ-loop
-run-all-requires c κs =
-    let v = c .before .before .before .before .loop .inv in
-    record { opens = v .0; taken = next-taken (v .7) (v .0) (v .2) _ (outputs-part (c .before .before .before)) }
-
-add-j : tie.Need-add-j Inv-loop μ-loop
+add-j : tie.Need-add-j Inv-loop2 μ-loop2 Inv-loop μ-loop
 add-j c = search needs
 
-loop-less : tie.Need-loop-less Inv-loop μ-loop
+loop-less : tie.Need-loop-less Inv-loop2 μ-loop2 Inv-loop μ-loop
 loop-less c = search needs
 
-loop-again : tie.Need-loop-again Inv-loop μ-loop
+loop-again : tie.Need-loop-again Inv-loop2 μ-loop2 Inv-loop μ-loop
 loop-again c =
-    let in-loop = c .before .before .before .before .before .before .before .before .before .before in
-    let v = in-loop .before .loop .inv in (
-      v .0,
-      v .1,
-      v .2,
-      v .3,
-      v .4,
-      v .5,
-      omega (arith, in-loop .loop-test .taken),
-      one-more (v .7) (c .before .before .before .before .before .before .run-all .ensures) (outputs-part in-loop) (pointers-part in-loop) (at-is in-loop) (long-is in-loop),
+    let scan = c .before .before in (
+      omega (arith, scan .loop-test .taken),
+      scan-done (c .before .loop2 .inv _ _ _ (outputs-room scan) (pointers-room scan) (scan .before .loop .inv .1))
+          (subst (λ (n : ℕ). n ≤ c .before .loop2 .k) (count-is (c .before .before .before .before .before .before .before .before .before .before .before)) (c .loop2-test .left)),
     )
 
-same-length : tie.Need-same-length Inv-loop μ-loop
-same-length c = table-long (c .before .loop .inv .7)
+same-length : tie.Need-same-length Inv-loop2 μ-loop2 Inv-loop μ-loop
+same-length c = table-long (c .before .loop .inv .1)
 
-same-length-2 : tie.Need-same-length-2 Inv-loop μ-loop
+same-length-2 : tie.Need-same-length-2 Inv-loop2 μ-loop2 Inv-loop μ-loop
 same-length-2 c =
-    let v = c .before .loop .inv in
-    let x = c .before .before .before .before .before .before .before .args in
-    packs-long (v .7) (room-before (c .before .loop .j) (x .times) (word (now (x .words)) 5) (length (now (x .outputs))) (v .6) (v .3))
+    let b = c .before .before .before .before .before .before .before .before .before in
+    packs-long (c .before .loop .inv .1) (omega (arith, room-before (c .before .loop .j) (b .args .times) (word (now (b .args .words)) 5) (length (now (b .args .outputs))) (c .before .loop .inv .0) (b .pre .outputs-room)))
 
-same-length-3 : tie.Need-same-length-3 Inv-loop μ-loop
+same-length-3 : tie.Need-same-length-3 Inv-loop2 μ-loop2 Inv-loop μ-loop
 same-length-3 c =
-    let v = c .before .loop .inv in
-    let x = c .before .before .before .before .before .before .before .args in
-    marks-long (v .7) (room-before (c .before .loop .j) (x .times) (word (now (x .words)) 5) (length (now (x .pointers))) (v .6) (v .4))
+    let b = c .before .before .before .before .before .before .before .before .before in
+    marks-long (c .before .loop .inv .1) (omega (arith, room-before (c .before .loop .j) (b .args .times) (word (now (b .args .words)) 5) (length (now (b .args .pointers))) (c .before .loop .inv .0) (b .pre .pointers-room)))
 
-returns : tie.Need-returns Inv-loop μ-loop
-returns c = let v = c .before .loop .inv in all-run (v .7) (omega (arith, v .5, v .6, c .loop-test .left))
+returns : tie.Need-returns Inv-loop2 μ-loop2 Inv-loop μ-loop
+returns c = all-run (c .before .loop .inv .1) (omega (arith, c .before .loop .inv .0, c .loop-test .left))
 
 pub run-times-spec : {M : Type 1} → statement M
 run-times-spec =
     tie.close
     (tie.spec
+    Inv-loop2
+    μ-loop2
     Inv-loop
     μ-loop
+    blocks-of-requires
     cast-count
     loop-holds
-    mul-at
-    add-next
-    mul-run-all
-    sub-run-all
-    part-run-all-start
-    part-run-all-end
-    mul-run-all-2
-    sub-run-all-2
-    part-run-all-start-2
-    part-run-all-end-2
-    run-all-requires
+    mul-first
+    loop2-holds
+    mul-run-one
+    array-copy-out-run-one
+    run-one-requires
+    add-k
+    loop2-less
+    loop2-again
     add-j
     loop-less
     loop-again
