@@ -18,7 +18,7 @@ pub enum Difference {
 }
 
 // Whether the words of x and of y are equal from one on, up to another. All are compared, with no stop at the first that
-// differs: of four words that is one comparison.
+// differs: of eight words that is one comparison.
 fn all_equal(x: &[u16], y: &[u16], from: usize, to: usize) -> bool
     requires { ⌜ Paired (now x) (now y) to × (from ≤ to) ⌝ }
     ensures { λ r. ⌜ (r ≡ true → Equal (now (x .entry)) (now (y .entry)) from to) ⌝ }
@@ -34,14 +34,14 @@ fn all_equal(x: &[u16], y: &[u16], from: usize, to: usize) -> bool
     equal
 }
 
-// A word up to which the n words of x and of y are equal, from `from` on: four are passed at a time.
+// A word up to which the n words of x and of y are equal, from `from` on: eight are passed at a time.
 fn equal_from(x: &[u16], y: &[u16], n: usize, from: usize) -> usize
     requires { ⌜ Paired (now x) (now y) n × (from ≤ n) ⌝ }
     ensures { λ r. ⌜ (r ≤ n) × Equal (now (x .entry)) (now (y .entry)) from r ⌝ }
 {
     let mut k = from;
-    while k + 4 <= n && all_equal(x, y, k, k + 4) {
-        k += 4;
+    while k + 8 <= n && all_equal(x, y, k, k + 8) {
+        k += 8;
     }
     k
 }

@@ -1,4 +1,4 @@
--- `matrix::search::equal_from` meets its contract: the words passed so far are equal, and four more are. Assumes nothing.
+-- `matrix::search::equal_from` meets its contract: the words passed so far are equal, and eight more are. Assumes nothing.
 use mathlib.Core.List.{List}
 use Prim.Native.Nat.{ℕ, _-_, _≤_}
 use native.Mathlib.Omega.{arith}
