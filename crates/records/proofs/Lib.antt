@@ -1,0 +1,2 @@
+-- The law by which a local array is lent.
+pub mod Lending

@@ -1,0 +1,41 @@
+// The two calls whose bodies hold what a caller lends: a reader over lent words, and a list of records lent to a scan.
+use bits::Verdict;
+use network::Opened;
+use network::Read;
+use network::Reader;
+use scan::Outputs;
+ghost use Rattle.network.specs.Check.{opened, read};
+ghost use Rattle.scan.specs.Records.{Recorded};
+ghost use mathlib.Core.Path.{_≡_};
+
+// What a reader says of the words that it was opened on, and of block k.
+pub(crate) struct Asked {
+    pub opened: Opened,
+    pub read: Read,
+}
+
+// A reader is opened on the words and asked twice.
+pub(crate) fn ask(words: &[u16], k: usize) -> Asked
+    ensures { λ r. ⌜ (r .opened ≡ opened (now (words .entry))) × (r .read ≡ read (now (words .entry)) k) ⌝ }
+{
+    let reader = Reader::open(words);
+    Asked {
+        opened: reader.opened(),
+        read: reader.record(k),
+    }
+}
+
+// The verdict on a scan, and the list of records as the scan left it.
+pub(crate) struct Scanned {
+    pub verdict: Verdict,
+    pub list: [Outputs; 5],
+}
+
+// One scan, which is lent a list of records.
+pub(crate) fn lend(words: &[u16], table: &mut [u16], before: [Outputs; 5]) -> Scanned
+    ensures { λ r. ⌜ Recorded (now (words .entry)) (now (table .entry)) before (r .verdict) (now (table .exit)) (r .list) ⌝ }
+{
+    let mut list = before;
+    let verdict = scan::scan(words, table, &mut list);
+    Scanned { verdict, list }
+}
