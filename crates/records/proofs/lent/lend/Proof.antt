@@ -48,6 +48,7 @@ use Rattle.bits.proofs.Verdict.Laws as verdict′
 use Rattle.network.proofs.Calls.{concludes}
 use Rattle.scan.specs.Records.{Recorded}
 use Rattle.scan.specs.declared.records.Outputs.{Outputs}
+use Rattle.scan.proofs.Lending.{Cell}
 use Rattle.scan.proofs.records.Outputs as T
 use Rattle.scan.proofs.records.Outputs.Laws as T′
 use Rattle.scan.proofs.scan as scan
@@ -55,7 +56,7 @@ use Rattle.scan.proofs.scan.Symbol as scan-def
 use Rattle.scan.proofs.scan.Symbol.{name as #scan}
 use Rattle.scan.proofs.scan.Met as scan-thm
 use Rattle.records.specs.declared.lent.Scanned.{Scanned}
-use Rattle.records.proofs.Lending.{whole-of, Lent, Lender, Cell, lent-out, lent-back}
+use Rattle.records.proofs.Lending.{whole-of, Lent, Lender, lent-out, lent-back}
 use Rattle.records.proofs.lent.Scanned as B
 use Rattle.records.proofs.lent.Scanned.Laws as B′
 use Rattle.records.proofs.lent.lend.Key.{name as #lend}
@@ -176,7 +177,7 @@ module _ {M : Type 1} (𝓤 : URA M) (H : Heap 𝓤) (A : Atoms 𝓤) (W : Given
         move ! (25 ∷ []) $ split ! $ move ! (1 ∷ []) $ split ! $ move ! (1 ∷ []) $ drop ! $
         -- the list is lent for a lifetime α of the call: [α's token; the tokens of the table and of the words; the table; the words, twice; _10; …]
         lft-new ! tt (λ α. move ! (18 ∷ []) $ use1 W (later (some (λ (δ : GName). ‵ (List-lent l₄ α δ) ⊛ ‵ (Lender T.the-row spell 5 l₄ 0 (α ∷ []) δ))))
-        (lent-out T.the-row spell 5 l₄ 0 (α ∷ []) 𝓤 H A W (LL.tells T.the-type T′.the-laws) (LL.makes T.the-type T′.the-plain 𝓤 H A) (LL.copy T.the-type T′.the-copy 𝓤 H A W) (named 2) os is-os tt (lit< tt, lit< tt)) $ await ! tt $ pick ! (λ δ. split ! $
+        (lent-out T.the-row spell 5 l₄ 0 (α ∷ []) 𝓤 H A W (LL.tells T.the-type T′.the-laws) (LL.copy T.the-type T′.the-copy 𝓤 H A W) (LL.makes T.the-type T′.the-plain 𝓤 H A) tt (lit< tt, lit< tt) (named 2) os is-os) $ await ! tt $ pick ! (λ δ. split ! $
         -- `scan`: [the list; its lender's part; the tokens of α, of the table, of the words; the table; the words, twice; _10; …; _5; …; that _4 dies; _3; …]
         move ! (4 ∷ 3 ∷ 2 ∷ 6 ∷ 5 ∷ 0 ∷ []) $ join ! $ join ! $ move ! (1 ∷ 2 ∷ []) $ join ! $ use3 W (raw (Scan 𝓤 H A mem run .pre (to-scan l₄ α δ))) (goes-scan l₄ α δ) $
         calls-at ! (fmOf 𝓤 H (W .laws) 𝓣) (Scan 𝓤 H A mem run) known (to-scan l₄ α δ) (and-then ! (load ! (from ! (stop !)) (look ! 20 refl)) (and-then ! (load ! (from ! (stop !)) (look ! 9 refl)) (and-then ! (load ! (from ! (stop !)) (look ! 5 refl)) (no-more !)))) (λ u.
@@ -188,8 +189,8 @@ module _ {M : Type 1} (𝓤 : URA M) (H : Heap 𝓤) (A : Atoms 𝓤) (W : Given
         land ! (from ! (stop !)) (init ! 16 refl (LL.lawful verdict.the-type verdict′.the-laws 𝓤 H A W .typed r _ is-r .0)) $
         -- the lifetime is ended, and the list comes back
         move ! (1 ∷ []) $ split ! $ move ! (1 ∷ []) $ split ! $ move ! (1 ∷ []) $ split ! $ lft-end ! tt $ move ! (0 ∷ 7 ∷ 5 ∷ []) $
-        use3 W (later (‵ (Cell T.the-row spell 5 l₄ 0 (α ∷ []) (zs .1 .1 .0)) ⊛ ‵ (Five .own (zs .1 .1 .0) (vals-of (zs .1 .1 .0)))))
-        (lent-back T.the-row spell 5 l₄ 0 (α ∷ []) 𝓤 H A W (LL.tells T.the-type T′.the-laws) (LL.makes T.the-type T′.the-plain 𝓤 H A) (LL.copy T.the-type T′.the-copy 𝓤 H A W) δ (zs .1 .1 .0)) $ await ! tt $ split ! $ move ! (1 ∷ []) $
+        use3 W (later (‵ (Cell T.the-row spell 5 l₄ 0 (zs .1 .1 .0)) ⊛ ‵ (Five .own (zs .1 .1 .0) (vals-of (zs .1 .1 .0)))))
+        (lent-back T.the-row spell 5 l₄ 0 (α ∷ []) 𝓤 H A W (LL.tells T.the-type T′.the-laws) (LL.copy T.the-type T′.the-copy 𝓤 H A W) δ (zs .1 .1 .0)) $ await ! tt $ split ! $ move ! (1 ∷ []) $
         -- [what the list owns; _4; true; the tokens of the table and of the words; the verdict; the table's last words; the words; _10; …; _5; …; that _4 dies; _3; …]
         peeks ! Five (Is Five) (shows 𝓤 H A Five) (zs .1 .1 .0) (vals-of (zs .1 .1 .0)) (λ is.
         assigns ! (of-opd ! (load ! (from ! (stop !)) (look ! 1 refl))) (from ! (stop !)) (init ! 8 refl (typed (zs .1 .1 .0) is)) $
