@@ -4,9 +4,9 @@ use network::Opened;
 use network::Read;
 use network::Reader;
 use scan::Outputs;
+ghost use mathlib.Core.Path.{_≡_};
 ghost use Rattle.network.specs.Check.{opened, read};
 ghost use Rattle.scan.specs.Records.{Recorded};
-ghost use mathlib.Core.Path.{_≡_};
 
 // What a reader says of the words that it was opened on, and of block k.
 pub(crate) struct Asked {

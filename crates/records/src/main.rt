@@ -30,7 +30,7 @@ const BEFORE: Outputs = Outputs {
     bottom: true,
 };
 
-// The words of a network of one word of coils, eight holding registers and so many blocks, and the words of all six.
+// The words of a network of one word of coils, eight holding registers and so many blocks. The words of all six stand there.
 fn words_of(count: u16) -> [u16; 96] {
     let mut words = [0u16; 96];
     words[0] = 4;
