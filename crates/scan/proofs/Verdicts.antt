@@ -1,11 +1,11 @@
--- The laws of a scan's verdict: each refusal keeps the table and the outputs, and what is not refused is scanned. `o` is the
--- network's opening. Assumes nothing.
+-- The laws of a scan's verdict: each refusal keeps the table and the lists, what is not refused is scanned, and one scan is one of
+-- several. `o` is the network's opening. Assumes nothing.
 use mathlib.Core.Path.{_≡_, refl, sym, ap, ap₂, _∙_, subst}
 use mathlib.Core.Bool.{Bool, true, false, cond, _&&_}
 use mathlib.Core.List.{List, _++_, map, append-nil}
 use Prim.Native.Nat.{ℕ, _*_, _≤_, _<_}
 use native.Mathlib.Omega.{arith}
-use borrow.Author.Tests.{eq-eqb, ne-eqb, le-leb, lt-leb}
+use borrow.Author.Tests.{eq-eqb, eqb-true, ne-eqb, le-leb, lt-leb}
 use lib.Dec.{eqb, leb}
 use lib.ListN.{length, drop}
 use Rattle.bits.specs.declared.Verdict.{Verdict}
@@ -18,24 +18,13 @@ use Rattle.network.proofs.Accepted.{accepts-exactly}
 use Rattle.scan.specs.Scan.{scanned, packed, scan-verdict, scan-table, scan-outputs}
 use Rattle.scan.specs.Scans.{scans-table, scans-outputs, scans-pointers, scans-verdict, scans-left, scans-packed, scans-marked}
 use Rattle.scan.specs.Inner.{Repeatable, Repeated}
-use Rattle.scan.proofs.Kept.{refusal-keeps}
 
--- what the contract asks of an answer, a table and outputs
-abbrev pub Scans : List ℕ → List ℕ → List ℕ → Verdict → List ℕ → List ℕ → Type 0
-Scans ws t outputs r table packs = LeavesTwo (scan-verdict ws t outputs) (scan-table ws t outputs) (scan-outputs ws t outputs) r table packs
-
-module _ (ws t outputs : List ℕ) where
-  -- a refusal
-  refused : (v : Verdict) → scan-verdict ws t outputs ≡ v → (v .number ≡ 0 → ⊥) → Scans ws t outputs v t outputs
-  refused v e h =
-      let kept = refusal-keeps ws t outputs (λ q. h (sym (ap (λ (x : Verdict). x .number) e) ∙ q)) in
-      record { answers = sym e; leaves-one = sym (kept .0); leaves-other = sym (kept .1) }
-
+module _ (ws t : List ℕ) where
   -- the verdict by its tests
-  pub by-tests : (fine long enough : Bool) → eqb (checked ws .number) 0 ≡ fine → eqb (length t) (total (sizes-in ws)) ≡ long → leb (word ws 5) (length outputs) ≡ enough
+  pub by-tests : (outputs : List ℕ) (fine long enough : Bool) → eqb (checked ws .number) 0 ≡ fine → eqb (length t) (total (sizes-in ws)) ≡ long → leb (word ws 5) (length outputs) ≡ enough
       → scan-verdict ws t outputs ≡ cond fine (cond (long && enough) done (verdict 12 0)) (checked ws)
   unfolding scan-verdict
-  by-tests fine long enough p q r i = cond (p i) (cond (q i && r i) done (verdict 12 0)) (checked ws)
+  by-tests outputs fine long enough p q r i = cond (p i) (cond (q i && r i) done (verdict 12 0)) (checked ws)
 
   module _ {o : Opened} (e : o ≡ opened ws) where
     by-words : (o .verdict .number ≡ 0 → ⊥) → (checked ws .number ≡ 0 → ⊥)
@@ -47,46 +36,6 @@ module _ (ws t outputs : List ℕ) where
     long : length t ≡ total (o .sizes) → length t ≡ total (sizes-in ws)
     unfolding opened
     long h = h ∙ ap (λ (x : Opened). total (x .sizes)) e
-
-    pub refused-words : (o .verdict .number ≡ 0 → ⊥) → Scans ws t outputs (o .verdict) t outputs
-    refused-words h =
-        refused (o .verdict)
-        (by-tests false _ _ (ne-eqb (checked ws .number) 0 (by-words h)) refl refl ∙ sym (ap (λ (x : Opened). x .verdict) e)) h
-
-    pub refused-table : o .verdict .number ≡ 0 → (length t ≡ total (o .sizes) → ⊥) → Scans ws t outputs (verdict 12 0) t outputs
-    unfolding opened
-    refused-table h n =
-        refused (verdict 12 0)
-        (by-tests true false _ (eq-eqb (checked ws .number) 0 (fine h)) (ne-eqb (length t) (total (sizes-in ws)) (λ q. n (q ∙ sym (ap (λ (x : Opened). total (x .sizes)) e)))) refl)
-        (λ q. omega arith)
-
-    pub refused-outputs : o .verdict .number ≡ 0 → length t ≡ total (o .sizes) → length outputs < o .count → Scans ws t outputs (verdict 12 0) t outputs
-    unfolding opened
-    refused-outputs h l s =
-        refused (verdict 12 0)
-        (by-tests true true false (eq-eqb (checked ws .number) 0 (fine h)) (eq-eqb (length t) (total (sizes-in ws)) (long l))
-        (lt-leb (word ws 5) (length outputs) (omega (arith, s, ap (λ (x : Opened). x .count) e))))
-        (λ q. omega arith)
-
-    pub not-refused : o .verdict .number ≡ 0 → length t ≡ total (o .sizes) → o .count ≤ length outputs → scan-verdict ws t outputs ≡ done
-    unfolding opened
-    not-refused h l s =
-        by-tests true true true (eq-eqb (checked ws .number) 0 (fine h)) (eq-eqb (length t) (total (sizes-in ws)) (long l))
-        (le-leb (word ws 5) (length outputs) (omega (arith, s, ap (λ (x : Opened). x .count) e)))
-
-  -- a scan is one of several
-  pub scans : scan-verdict ws t outputs ≡ done → {pointers table packs marks : List ℕ} → Repeated ws 1 t outputs pointers table packs marks → Scans ws t outputs done table packs
-  unfolding scan-table scan-outputs scans-table scans-outputs
-  scans e s =
-      let n : 1 * word ws 5 ≡ word ws 5 = omega arith in
-      record {
-        answers = sym e;
-        leaves-one = s .table-after ∙ sym (ap (λ (v : Verdict). cond (eqb (v .number) 0) (scanned ws t .table) t) e);
-        leaves-other =
-            s .outputs-after
-            ∙ ap₂ (λ (p : List ℕ) (m : ℕ). p ++ drop m outputs) (append-nil (map packed (scanned ws t .outs))) n
-            ∙ sym (ap (λ (v : Verdict). cond (eqb (v .number) 0) (map packed (scanned ws t .outs) ++ drop (word ws 5) outputs) outputs) e);
-      }
 
 -- ---- several scans
 abbrev pub Repeats : List ℕ → List ℕ → ℕ → List ℕ → List ℕ → Verdict → List ℕ → List ℕ → List ℕ → Type 0
@@ -117,13 +66,13 @@ module _ (ws t : List ℕ) (times : ℕ) (outputs pointers : List ℕ) where
     pub repeat-words : (o .verdict .number ≡ 0 → ⊥) → Repeats ws t times outputs pointers (o .verdict) t outputs pointers
     repeat-words h =
         repeat-refused (o .verdict)
-        (repeat-tests false _ _ _ (ne-eqb (checked ws .number) 0 (by-words ws t outputs e h)) refl refl refl ∙ sym (ap (λ (x : Opened). x .verdict) e)) h
+        (repeat-tests false _ _ _ (ne-eqb (checked ws .number) 0 (by-words ws t e h)) refl refl refl ∙ sym (ap (λ (x : Opened). x .verdict) e)) h
 
     pub repeat-table : o .verdict .number ≡ 0 → (length t ≡ total (o .sizes) → ⊥) → Repeats ws t times outputs pointers (verdict 12 0) t outputs pointers
     unfolding opened
     repeat-table h n =
         repeat-refused (verdict 12 0)
-        (repeat-tests true false _ _ (eq-eqb (checked ws .number) 0 (fine ws t outputs e h)) (ne-eqb (length t) (total (sizes-in ws)) (λ q. n (q ∙ sym (ap (λ (x : Opened). total (x .sizes)) e)))) refl refl)
+        (repeat-tests true false _ _ (eq-eqb (checked ws .number) 0 (fine ws t e h)) (ne-eqb (length t) (total (sizes-in ws)) (λ q. n (q ∙ sym (ap (λ (x : Opened). total (x .sizes)) e)))) refl refl)
         (λ q. omega arith)
 
     entries : times * o .count ≡ times * word ws 5
@@ -133,7 +82,7 @@ module _ (ws t : List ℕ) (times : ℕ) (outputs pointers : List ℕ) where
     pub repeat-outputs : o .verdict .number ≡ 0 → length t ≡ total (o .sizes) → length outputs < times * o .count → Repeats ws t times outputs pointers (verdict 12 0) t outputs pointers
     repeat-outputs h l s =
         repeat-refused (verdict 12 0)
-        (repeat-tests true true false _ (eq-eqb (checked ws .number) 0 (fine ws t outputs e h)) (eq-eqb (length t) (total (sizes-in ws)) (long ws t outputs e l))
+        (repeat-tests true true false _ (eq-eqb (checked ws .number) 0 (fine ws t e h)) (eq-eqb (length t) (total (sizes-in ws)) (long ws t e l))
         (lt-leb (times * word ws 5) (length outputs) (subst (λ (n : ℕ). length outputs < n) entries s)) refl)
         (λ q. omega arith)
 
@@ -141,7 +90,7 @@ module _ (ws t : List ℕ) (times : ℕ) (outputs pointers : List ℕ) where
         → Repeats ws t times outputs pointers (verdict 12 0) t outputs pointers
     repeat-pointers h l u s =
         repeat-refused (verdict 12 0)
-        (repeat-tests true true true false (eq-eqb (checked ws .number) 0 (fine ws t outputs e h)) (eq-eqb (length t) (total (sizes-in ws)) (long ws t outputs e l))
+        (repeat-tests true true true false (eq-eqb (checked ws .number) 0 (fine ws t e h)) (eq-eqb (length t) (total (sizes-in ws)) (long ws t e l))
         (le-leb (times * word ws 5) (length outputs) (subst (λ (n : ℕ). n ≤ length outputs) entries u))
         (lt-leb (times * word ws 5) (length pointers) (subst (λ (n : ℕ). length pointers < n) entries s)))
         (λ q. omega arith)
@@ -150,8 +99,8 @@ module _ (ws t : List ℕ) (times : ℕ) (outputs pointers : List ℕ) where
       pub repeatable : Repeatable ws o t times outputs pointers
       repeatable = record {
         opens = e;
-        accepted = fine ws t outputs e h;
-        exact = long ws t outputs e l;
+        accepted = fine ws t e h;
+        exact = long ws t e l;
         outputs-room = subst (λ (n : ℕ). n ≤ length outputs) entries u;
         pointers-room = subst (λ (n : ℕ). n ≤ length pointers) entries v;
       }
@@ -170,10 +119,34 @@ module _ (ws t : List ℕ) (times : ℕ) (outputs pointers : List ℕ) where
         leaves-last = s .pointers-after ∙ sym (ap (λ (x : Verdict). cond (eqb (x .number) 0) (scans-pointers ws t times ++ drop (times * word ws 5) pointers) pointers) taken);
       }
 
--- one scan, with a list of 128 pointers
-pub one-scan : (ws t outputs pointers : List ℕ) {o : Opened} → o ≡ opened ws → o .verdict .number ≡ 0 → length t ≡ total (o .sizes) → o .count ≤ length outputs → length pointers ≡ 128
-    → Repeatable ws o t 1 outputs pointers
-unfolding opened
-one-scan ws t outputs pointers {o} e h l u v =
-    let few = accepts-exactly ws .0 (fine ws t outputs e h) .few in
-    repeatable ws t 1 outputs pointers e h l (omega (arith, u)) (omega (arith, few, v, ap (λ (x : Opened). x .count) e))
+-- ---- one scan is one of several, with a list of 128 pointers
+one-mul : (n : ℕ) → 1 * n ≡ n
+one-mul n = omega arith
+
+module _ (ws t outputs pointers : List ℕ) (most : length pointers ≡ 128) where
+  same-verdict : scans-verdict ws t 1 outputs pointers ≡ scan-verdict ws t outputs
+  same-verdict = go (eqb (checked ws .number) 0) refl
+    where
+      all-room : (b : Bool) → (b && true) ≡ b
+      all-room true = refl
+      all-room false = refl
+
+      go : (fine : Bool) → eqb (checked ws .number) 0 ≡ fine → scans-verdict ws t 1 outputs pointers ≡ scan-verdict ws t outputs
+      go true p =
+          let few = accepts-exactly ws .0 (eqb-true (checked ws .number) 0 p) .few in
+          repeat-tests ws t 1 outputs pointers true _ _ true p refl (ap (λ (n : ℕ). leb n (length outputs)) (one-mul (word ws 5))) (le-leb (1 * word ws 5) (length pointers) (omega (arith, few, most)))
+          ∙ ap (λ (b : Bool). cond (eqb (length t) (total (sizes-in ws)) && b) done (verdict 12 0)) (all-room (leb (word ws 5) (length outputs)))
+          ∙ sym (by-tests ws t outputs true _ _ p refl refl)
+      go false p = repeat-tests ws t 1 outputs pointers false _ _ _ p refl refl refl ∙ sym (by-tests ws t outputs false _ _ p refl refl)
+
+  pub one-scan : {r : Verdict} {table packs marks : List ℕ} → Repeats ws t 1 outputs pointers r table packs marks → LeavesTwo (scan-verdict ws t outputs) (scan-table ws t outputs) (scan-outputs ws t outputs) r table packs
+  unfolding scan-table scan-outputs scans-left scans-packed scans-table scans-outputs
+  one-scan s =
+      record {
+        answers = s .answers ∙ same-verdict;
+        leaves-one = s .leaves-one ∙ ap (λ (v : Verdict). cond (eqb (v .number) 0) (scanned ws t .table) t) same-verdict;
+        leaves-other =
+            s .leaves-other
+            ∙ ap₂ (λ (p : List ℕ) (v : Verdict). cond (eqb (v .number) 0) p outputs)
+            (ap₂ (λ (p : List ℕ) (m : ℕ). p ++ drop m outputs) (append-nil (map packed (scanned ws t .outs))) (one-mul (word ws 5))) same-verdict;
+      }

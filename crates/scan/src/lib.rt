@@ -19,7 +19,7 @@ use crate::block::pointer_of;
 use crate::block::run;
 use crate::input::power_on;
 use crate::placed::Placed;
-use crate::repeat::run_times;
+use crate::repeat::scans_opened;
 use bits::Verdict;
 use blocks::Power;
 use network::Opened;
@@ -63,7 +63,7 @@ fn run_one(
     pointers[entry] = pointer_of(table, one);
 }
 
-// One scan of an opened network, or its refusal.
+// One scan of an opened network, or its refusal: one of several, whose pointers nobody reads.
 fn scan_opened(words: &[u16], o: Opened, table: &mut [u16], outputs: &mut [u16]) -> Verdict
     requires { ⌜ o ≡ opened (now words) ⌝ }
     ensures { λ r. ⌜
@@ -73,26 +73,8 @@ fn scan_opened(words: &[u16], o: Opened, table: &mut [u16], outputs: &mut [u16])
         (scan-outputs (now (words .entry)) (now (table .entry)) (now (outputs .entry)))
         r (now (table .exit)) (now (outputs .exit)) ⌝ }
 {
-    let verdict = o.verdict;
-    if verdict.number != 0 {
-        return verdict;
-    }
-    let short = Verdict {
-        number: 12,
-        place: 0,
-    };
-    if table.len() != network::total(o.sizes) as usize {
-        return short;
-    }
-    if outputs.len() < o.count as usize {
-        return short;
-    }
     let mut pointers = [0u16; 128];
-    run_times(words, o, table, 1, outputs, &mut pointers);
-    Verdict {
-        number: 0,
-        place: 0,
-    }
+    scans_opened(words, o, table, 1, outputs, &mut pointers)
 }
 
 // One scan of the network that the words spell, on the table of its areas. Each block's outputs come back as one number, top

@@ -3,7 +3,9 @@ use crate::placed::blocks_of;
 use crate::run_one;
 use bits::Verdict;
 use network::Opened;
+ghost use mathlib.Core.Path.{_≡_};
 ghost use Rattle.bits.specs.Promise.{LeavesThree};
+ghost use Rattle.network.specs.Check.{opened};
 ghost use Rattle.scan.specs.Scans.{scans-verdict, scans-left, scans-packed, scans-marked};
 ghost use Rattle.scan.specs.Inner.{Repeatable, Repeated};
 
@@ -39,16 +41,16 @@ pub(crate) fn run_times(
     }
 }
 
-// Several scans of the network that the words spell, one after the other on its table, which is checked once for all of them. Of
-// each scan in turn, every block's outputs come back as `scan_packed` gives them, and its pointer when it is done (0 for a kind without
-// one); entries after them stay.
-pub fn scans(
+// Several scans of an opened network, or their refusal.
+pub(crate) fn scans_opened(
     words: &[u16],
+    o: Opened,
     table: &mut [u16],
     times: u16,
     outputs: &mut [u16],
     pointers: &mut [u16],
 ) -> Verdict
+    requires { ⌜ o ≡ opened (now words) ⌝ }
     ensures { λ r. ⌜
         LeavesThree
         (scans-verdict (now (words .entry)) (now (table .entry)) times (now (outputs .entry)) (now (pointers .entry)))
@@ -57,7 +59,6 @@ pub fn scans(
         (scans-marked (now (words .entry)) (now (table .entry)) times (now (outputs .entry)) (now (pointers .entry)))
         r (now (table .exit)) (now (outputs .exit)) (now (pointers .exit)) ⌝ }
 {
-    let o = network::opening(words);
     let verdict = o.verdict;
     if verdict.number != 0 {
         return verdict;
@@ -81,4 +82,26 @@ pub fn scans(
         number: 0,
         place: 0,
     }
+}
+
+// Several scans of the network that the words spell, one after the other on its table, which is checked once for all of them. Of
+// each scan in turn, every block's outputs come back as `scan_packed` gives them, and its pointer when it is done (0 for a kind without
+// one); entries after them stay.
+pub fn scans(
+    words: &[u16],
+    table: &mut [u16],
+    times: u16,
+    outputs: &mut [u16],
+    pointers: &mut [u16],
+) -> Verdict
+    ensures { λ r. ⌜
+        LeavesThree
+        (scans-verdict (now (words .entry)) (now (table .entry)) times (now (outputs .entry)) (now (pointers .entry)))
+        (scans-left (now (words .entry)) (now (table .entry)) times (now (outputs .entry)) (now (pointers .entry)))
+        (scans-packed (now (words .entry)) (now (table .entry)) times (now (outputs .entry)) (now (pointers .entry)))
+        (scans-marked (now (words .entry)) (now (table .entry)) times (now (outputs .entry)) (now (pointers .entry)))
+        r (now (table .exit)) (now (outputs .exit)) (now (pointers .exit)) ⌝ }
+{
+    let o = network::opening(words);
+    scans_opened(words, o, table, times, outputs, pointers)
 }
