@@ -1,6 +1,6 @@
 -- What the contracts of the crate's own functions cite, beside the definitions that a caller reads: bytes that were put into a
 -- buffer, and the lines of scans by the entries of their lists. Assumes nothing.
-use Prim.Native.Nat.{ℕ, zero, suc, _+_, _-_, _*_, _/_, _≤_}
+use Prim.Native.Nat.{ℕ, zero, suc, _+_, _*_, _/_, _≤_}
 use mathlib.Core.Path.{_≡_}
 use mathlib.Core.Bool.{false}
 use mathlib.Core.List.{List, [], _∷_, _++_}

@@ -30,7 +30,7 @@ use Rattle.blocks.specs.declared.Power.{Power}
 use Rattle.blocks.specs.Kind.{kind-of}
 use Rattle.blocks.specs.View.{View, first-word, seen, view}
 use Rattle.blocks.specs.Effect.{Effect, idle, into, zeroed, found, compare, effect-of}
-use Rattle.blocks.specs.Work.{pointer-node, matrix-put, one-word, coil-put, coils-put, effect-on, outputs, written, block-outputs, block-table}
+use Rattle.blocks.specs.Work.{pointer-node, matrix-put, one-word, coil-put, coils-put, effect-on, outputs, block-outputs, block-table}
 use Rattle.blocks.proofs.Puts.{same-bit, word-below, word-inside, word-above, coil-word, coil-length, put-length}
 use Rattle.scan.specs.Input.{no-power, power-on}
 use Rattle.scan.specs.Scan.{State, step, scanned}

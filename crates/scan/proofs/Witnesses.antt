@@ -20,7 +20,7 @@ use Rattle.network.specs.Check.{sizes-in, seek, head-faults, head-fault, fault-
 use Rattle.blocks.specs.Work.{block-outputs, block-table}
 use Rattle.scan.specs.Input.{passes}
 use Rattle.scan.specs.Scan.{step, steps, blocks-from, scanned}
-use Rattle.scan.specs.Demand3.{above, round, visit, source-in, matrix-in, pointer-in, source, matrix, stepped, SameBits, reports, nothing, times, nones, SourceLeavesOut, NothingElse, Premises, Round, all-outside, Chain}
+use Rattle.scan.specs.Demand3.{above, round, visit, source-in, matrix-in, pointer-in, source, matrix, stepped, SameBits, reports, times, nones, SourceLeavesOut, NothingElse, Premises, Round, all-outside, Chain}
 use Rattle.scan.proofs.Chained.{chain-is-stretch}
 use Rattle.scan.proofs.Demand3.{demand-3}
 

@@ -26,7 +26,7 @@ use Rattle.matrix.proofs.Singles.{placed-set}
 use Rattle.network.specs.declared.sizes.Sizes.{Sizes}
 use Rattle.blocks.specs.declared.Power.{Power}
 use Rattle.blocks.specs.Effect.{Effect, effect, idle, logic, rotate}
-use Rattle.blocks.specs.Work.{matrix-put, one-word, coil-put, outputs}
+use Rattle.blocks.specs.Work.{matrix-put, one-word, coil-put}
 use Rattle.scan.specs.Inner.{Does, combined-at, rotated-at, put-at, CoilArea}
 
 -- ---- a bit

@@ -1,6 +1,6 @@
 -- Several scans, one after the other, each of the table that the one before left; and the pointer that a block shows when it is done
 -- (document 01, "The bench program"). Assumes nothing.
-use Prim.Native.Nat.{ℕ, zero, suc, _+_, _*_}
+use Prim.Native.Nat.{ℕ, zero, suc, _*_}
 use mathlib.Core.Bool.{Bool, true, false, cond, _&&_}
 use mathlib.Core.List.{List, [], _∷_, _++_, map}
 use lib.Dec.{eqb, leb}

@@ -1,7 +1,7 @@
 -- `vectors::text::number` meets its contract. The loop's invariant: the value is that of the digits passed. Assumes nothing.
 use mathlib.Core.Path.{_≡_, refl, sym, ap, _∙_}
 use mathlib.Core.Bool.{Bool, true, false, cond}
-use Prim.Native.Nat.{ℕ, suc, _+_, _*_, _≤_, _<_, _-_, _%_}
+use Prim.Native.Nat.{ℕ, _+_, _*_, _≤_, _<_, _-_, _%_}
 use native.Mathlib.Nat.{mod-lt, mul-le-mul}
 use native.Mathlib.Numerals.{add-one}
 use native.Mathlib.Omega.{arith}

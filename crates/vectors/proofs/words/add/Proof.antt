@@ -8,9 +8,8 @@ use native.Mathlib.Omega.{arith}
 use borrow.Author.Needs.{needs}
 use borrow.Author.Tests.{lt-ltb, le-ltb}
 use lib.ListN.{length, take, set, getD, length-set}
-use lib.Seq.{sets, take-suc, take-all, length-take-le}
+use lib.Seq.{sets, take-suc, length-take-le}
 use mathlib.Core.Bool.{Bool, cond}
-use denote.Ref.{now}
 use Rattle.vectors.specs.Words.{count, added}
 use Rattle.vectors.proofs.words.add.Statement.{statement}
 use Rattle.vectors.proofs.words.add.Tie as tie
