@@ -22,14 +22,14 @@ use Rattle.blocks.specs.Kind.{kind-of}
 use Rattle.blocks.specs.View.{first-word, pointer-in, seen, view}
 use Rattle.blocks.specs.Effect.{logic, compare, effect-of}
 use Rattle.blocks.specs.Work.{pointer-node}
-use Rattle.scan.specs.declared.placed.Placed.{Placed}
+use Rattle.scan.specs.declared.located.Located.{Located}
 use Rattle.scan.specs.Scans.{has-pointer, pointer-of}
 use Rattle.scan.specs.Inner.{pointer-at, Pointing, Does, combined-at, rotated-at, compared-at, modified-at, sensed-at, operation-of, Ready, Works}
 
 below-next : (k m : ℕ) → k ≤ suc m → (k ≡ suc m → ⊥) → k ≤ m
 below-next k m l n = omega arith
 
-module _ (z : Sizes) (one : Placed) (t : List ℕ) (r : Ready z one t) where
+module _ (z : Sizes) (one : Located) (t : List ℕ) (r : Ready z one t) where
   abbrev b : Block
   b = one .block
 

@@ -11,7 +11,7 @@ pub mod Examples
 pub mod Kept
 pub mod Lending
 pub mod Packing
-pub mod Placing
+pub mod Locating
 pub mod Pointed
 pub mod Recording
 pub mod Repeating

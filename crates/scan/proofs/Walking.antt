@@ -16,11 +16,11 @@ use Rattle.network.specs.Check.{sizes-in, block-start}
 use Rattle.network.specs.Sound.{Sound}
 use Rattle.blocks.specs.declared.Power.{Power}
 use Rattle.blocks.specs.Work.{block-outputs, block-table}
-use Rattle.scan.specs.declared.placed.Placed.{Placed}
+use Rattle.scan.specs.declared.located.Located.{Located}
 use Rattle.scan.specs.Input.{power-on}
 use Rattle.scan.specs.Scan.{State, step, steps, blocks-from, packed, unpacked}
 use Rattle.scan.specs.Scans.{pointer-of, pointers-after, scans-table, scans-outputs, scans-pointers}
-use Rattle.scan.specs.Inner.{Next, Ran, power-of, placed-at, Repeated}
+use Rattle.scan.specs.Inner.{Next, Ran, power-of, located-at, Repeated}
 use Rattle.scan.proofs.Kept.{exact-after}
 use Rattle.scan.proofs.Wired.{all-unpacked}
 use Rattle.scan.proofs.Scanning.{after, after-next, outs-count, pointers-so-far, mark-next, marks-count}
@@ -122,7 +122,7 @@ module _ {ws t outputs pointers : List ℕ} {j k : ℕ} {table packs marks : Lis
     block : Block
     block = block-at ws (block-start k)
 
-    next-here : Next (sizes-in ws) (placed-at ws k) table packs marks (j * word ws 5) k
+    next-here : Next (sizes-in ws) (located-at ws k) table packs marks (j * word ws 5) k
     next-here = record {
       runs = record { good = h .sound .blocks k l; exact = table-exact };
       lies = record { top-word = refl; middle-word = refl };
@@ -146,7 +146,7 @@ module _ {ws t outputs pointers : List ℕ} {j k : ℕ} {table packs marks : Lis
     out = block-outputs (sizes-in ws) block (state ws t j k .table) on
 
     module _ {table-then packs-then marks-then : List ℕ}
-        (r : Ran (sizes-in ws) (placed-at ws k) (j * word ws 5) k table packs marks table-then packs-then marks-then) where
+        (r : Ran (sizes-in ws) (located-at ws k) (j * word ws 5) k table packs marks table-then packs-then marks-then) where
       table-more : table-then ≡ state ws t j (suc k) .table
       unfolding block on step
       table-more =
@@ -195,19 +195,19 @@ module _ {ws t outputs pointers : List ℕ} {j k : ℕ} {table packs marks : Lis
       })
 
     -- by what the code has for its sizes, its record and its first entry
-    module _ {z : Sizes} (p : z ≡ sizes-in ws) {one : Placed} (q : one ≡ placed-at ws k) {first : ℕ} (e : first ≡ j * word ws 5) where
+    module _ {z : Sizes} (p : z ≡ sizes-in ws) {one : Located} (q : one ≡ located-at ws k) {first : ℕ} (e : first ≡ j * word ws 5) where
       pub next-ready : Next z one table packs marks first k
       next-ready =
           subst (λ (y : Sizes). Next y one table packs marks first k) (sym p)
-          (subst (λ (x : Placed). Next (sizes-in ws) x table packs marks first k) (sym q)
-          (subst (λ (n : ℕ). Next (sizes-in ws) (placed-at ws k) table packs marks n k) (sym e) next-here))
+          (subst (λ (x : Located). Next (sizes-in ws) x table packs marks first k) (sym q)
+          (subst (λ (n : ℕ). Next (sizes-in ws) (located-at ws k) table packs marks n k) (sym e) next-here))
 
       pub one-more : {table-then packs-then marks-then : List ℕ} → Ran z one first k table packs marks table-then packs-then marks-then
           → SoFar ws t outputs pointers j (k + 1) table-then packs-then marks-then
       one-more {table-then} {packs-then} {marks-then} r =
           more
-          (subst (λ (n : ℕ). Ran (sizes-in ws) (placed-at ws k) n k table packs marks table-then packs-then marks-then) e
-          (subst (λ (x : Placed). Ran (sizes-in ws) x first k table packs marks table-then packs-then marks-then) q
+          (subst (λ (n : ℕ). Ran (sizes-in ws) (located-at ws k) n k table packs marks table-then packs-then marks-then) e
+          (subst (λ (x : Located). Ran (sizes-in ws) x first k table packs marks table-then packs-then marks-then) q
           (subst (λ (y : Sizes). Ran y one first k table packs marks table-then packs-then marks-then) p r)))
 
   -- ---- one scan more

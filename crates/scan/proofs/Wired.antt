@@ -14,7 +14,7 @@ use Rattle.network.specs.declared.sizes.Sizes.{Sizes}
 use Rattle.network.specs.declared.block.Input.{Input}
 use Rattle.network.specs.Sound.{GoodInput}
 use Rattle.blocks.specs.declared.Power.{Power}
-use Rattle.scan.specs.declared.placed.Placed.{Placed}
+use Rattle.scan.specs.declared.located.Located.{Located}
 use Rattle.scan.specs.Input.{coil, discrete-input, no-power, of-block, passes}
 use Rattle.scan.specs.Scan.{packed, unpacked}
 use Rattle.scan.specs.Inner.{Contacts, GoodInputs, Next}
@@ -46,7 +46,7 @@ module _ (z : Sizes) (t : List ℕ) (earlier : ℕ) (input : Input) (h : Contact
       )
 
 -- what the next block needs for its inputs and its work
-module _ (z : Sizes) (one : Placed) (t packs marks : List ℕ) (first k : ℕ) (h : Next z one t packs marks first k) where
+module _ (z : Sizes) (one : Located) (t packs marks : List ℕ) (first k : ℕ) (h : Next z one t packs marks first k) where
   pub next-contacts : Contacts z t
   next-contacts = record { few-coils = h .few-coils; few-discretes = h .few-discretes; inside = omega (arith, h .runs .exact) }
 

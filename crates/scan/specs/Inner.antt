@@ -30,7 +30,7 @@ use Rattle.blocks.specs.View.{first-word, seen}
 use Rattle.blocks.specs.Effect.{Effect, logic, compare, rotate, modify, sense}
 use Rattle.blocks.specs.Work.{pointer-node, matrix-put, one-word, effect-on, outputs, block-outputs, block-table}
 use Rattle.blocks.specs.Truths.{Runs}
-use Rattle.scan.specs.declared.placed.Placed.{Placed}
+use Rattle.scan.specs.declared.located.Located.{Located}
 use Rattle.scan.specs.declared.records.Numbers.{Numbers}
 use Rattle.scan.specs.Input.{power-on}
 use Rattle.scan.specs.Scan.{packed, unpacked, scan-verdict, scan-table, scan-outputs}
@@ -95,24 +95,24 @@ pub record GoodCoils (z : Sizes) (coils : Coils) : Type 0 where
   pub bottom-coil : coils .bottom ≤ 16 * z .coils
 
 -- the indexes are those of the nodes' first words
-pub record Lies (z : Sizes) (one : Placed) : Type 0 where
+pub record Lies (z : Sizes) (one : Located) : Type 0 where
   pub top-word : one .top ≡ first-word z (one .block .top)
   pub middle-word : one .middle ≡ first-word z (one .block .middle)
 
 -- a block of a checked network, and a table of exactly its areas
-pub record Ready (z : Sizes) (one : Placed) (t : List ℕ) : Type 0 where
+pub record Ready (z : Sizes) (one : Located) (t : List ℕ) : Type 0 where
   pub earlier : ℕ
   pub runs : Runs z earlier (one .block) t
   pub lies : Lies z one
   pub few-coils : z .coils ≤ most-coils
 
 -- of some network
-pub record Runnable (one : Placed) (t : List ℕ) : Type 0 where
+pub record Runnable (one : Located) (t : List ℕ) : Type 0 where
   pub sizes : Sizes
   pub ready : Ready sizes one t
 
 -- what is true by whichever sizes a block lies there
-abbrev pub Whichever : Placed → List ℕ → (Sizes → Block → Type 0) → Type 0
+abbrev pub Whichever : Located → List ℕ → (Sizes → Block → Type 0) → Type 0
 Whichever one t P = (z : Sizes) → Ready z one t → P z (one .block)
 
 -- the block's outputs, and its destination and pointer written
@@ -136,7 +136,7 @@ pub record GoodInputs (z : Sizes) (earlier : ℕ) (inputs : Inputs) : Type 0 whe
 
 -- block k + 1 of a checked network, its table, and lists with an entry for it after those of the k earlier blocks of this scan, which
 -- stand from an entry on
-pub record Next (z : Sizes) (one : Placed) (t packs marks : List ℕ) (first k : ℕ) : Type 0 where
+pub record Next (z : Sizes) (one : Located) (t packs marks : List ℕ) (first k : ℕ) : Type 0 where
   pub runs : Runs z k (one .block) t
   pub lies : Lies z one
   pub few-coils : z .coils ≤ most-coils
@@ -149,7 +149,7 @@ abbrev pub power-of : Sizes → Block → List ℕ → List ℕ → ℕ → ℕ 
 power-of z b t packs first k = power-on z t (map unpacked (take k (drop first packs))) (b .inputs)
 
 -- the table that the block leaves, and its outputs and its pointer in their entries
-pub record Ran (z : Sizes) (one : Placed) (first k : ℕ) (t packs marks table after marked : List ℕ) : Type 0 where
+pub record Ran (z : Sizes) (one : Located) (first k : ℕ) (t packs marks table after marked : List ℕ) : Type 0 where
   pub table-after : table ≡ block-table z (one .block) t (power-of z (one .block) t packs first k)
   pub entry-after : after ≡ set packs (first + k) (packed (block-outputs z (one .block) t (power-of z (one .block) t packs first k)))
   pub mark-after : marked ≡ set marks (first + k) (pointer-of z (one .block) table)
@@ -160,16 +160,16 @@ pub record Legible (ws : List ℕ) (o : Opened) : Type 0 where
   pub accepted : checked ws .number ≡ 0
 
 -- block k + 1 of a network, with the first words of its nodes
-abbrev pub placed-at : List ℕ → ℕ → Placed
-placed-at ws k = record {
+abbrev pub located-at : List ℕ → ℕ → Located
+located-at ws k = record {
   block = block-at ws (block-start k);
   top = first-word (sizes-in ws) (block-at ws (block-start k) .top);
   middle = first-word (sizes-in ws) (block-at ws (block-start k) .middle);
 }
 
 -- a list that has every block of a network in its entry
-abbrev pub Places : List ℕ → List Placed → Type 0
-Places ws blocks = (k : ℕ) → k < word ws 5 → (otherwise : Placed) → getD blocks k otherwise ≡ placed-at ws k
+abbrev pub Locates : List ℕ → List Located → Type 0
+Locates ws blocks = (k : ℕ) → k < word ws 5 → (otherwise : Located) → getD blocks k otherwise ≡ located-at ws k
 
 -- ---- several scans
 

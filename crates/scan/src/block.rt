@@ -1,7 +1,7 @@
 // One block of a checked network, on a table of exactly its areas.
 use crate::coil::put_coils;
 use crate::compare::compare;
-use crate::placed::Placed;
+use crate::located::Located;
 use crate::single::modify;
 use crate::single::sense;
 use crate::whole::logic;
@@ -40,7 +40,7 @@ fn operation(kind: u16) -> Operation
 }
 
 // The destination and the pointer are written as the kind's rule says; the answer is the outputs.
-fn work(table: &mut [u16], one: Placed, on: Power) -> Power
+fn work(table: &mut [u16], one: Located, on: Power) -> Power
     requires { ⌜ Runnable one (now table) ⌝ }
     ensures { λ r. ⌜ Whichever one (now (table .entry)) (λ z b. Works z b on (now (table .entry)) r (now (table .exit))) ⌝ }
 {
@@ -66,7 +66,7 @@ fn work(table: &mut [u16], one: Placed, on: Power) -> Power
 }
 
 // The block's work, then its coils, also when the top input has no power.
-pub(crate) fn run(table: &mut [u16], sizes: Sizes, one: Placed, on: Power) -> Power
+pub(crate) fn run(table: &mut [u16], sizes: Sizes, one: Located, on: Power) -> Power
     requires { ⌜ Ready sizes one (now table) ⌝ }
     ensures { λ r. ⌜
         Leaves (block-outputs sizes (one .block) (now (table .entry)) on) (block-table sizes (one .block) (now (table .entry)) on)
@@ -78,7 +78,7 @@ pub(crate) fn run(table: &mut [u16], sizes: Sizes, one: Placed, on: Power) -> Po
 }
 
 // The block's pointer as the table has it; 0 for a kind without one.
-pub(crate) fn pointer_of(table: &[u16], one: Placed) -> u16
+pub(crate) fn pointer_of(table: &[u16], one: Located) -> u16
     requires { ⌜ Runnable one (now table) ⌝ }
     ensures { λ r. ⌜ Whichever one (now (table .entry)) (λ z b. r ≡ pointer-of z b (now (table .entry))) ⌝ }
 {

@@ -8,7 +8,7 @@ mod block;
 mod coil;
 mod compare;
 mod input;
-mod placed;
+mod located;
 mod pointer;
 mod records;
 mod repeat;
@@ -18,7 +18,7 @@ mod whole;
 use crate::block::pointer_of;
 use crate::block::run;
 use crate::input::power_on;
-use crate::placed::Placed;
+use crate::located::Located;
 use crate::repeat::scans_opened;
 use bits::Verdict;
 use blocks::Power;
@@ -47,7 +47,7 @@ fn run_one(
     outputs: &mut [u16],
     pointers: &mut [u16],
     sizes: Sizes,
-    one: Placed,
+    one: Located,
     first: usize,
     k: usize,
 )

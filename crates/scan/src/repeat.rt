@@ -1,5 +1,5 @@
 // Several scans, one after the other.
-use crate::placed::blocks_of;
+use crate::located::blocks_of;
 use crate::run_one;
 use bits::Verdict;
 use network::Opened;

@@ -8,14 +8,14 @@ use denote.Ref.{now}
 use Rattle.matrix.specs.declared.logic.Operation.{Operation}
 use Rattle.network.specs.declared.sizes.Sizes.{Sizes}
 use Rattle.blocks.specs.declared.Power.{Power}
-use Rattle.scan.specs.declared.placed.Placed.{Placed}
+use Rattle.scan.specs.declared.located.Located.{Located}
 use Rattle.scan.specs.Inner.{Does, combined-at, Ready}
 use Rattle.scan.proofs.Checked.{whole-lies, compared-lies, matrix-lies, register-lies, held-lies, compare-works, rotate-works, modify-works, sense-works, logic-works, first-four}
 use Rattle.scan.proofs.block.work.Statement.{statement}
 use Rattle.scan.proofs.block.work.Tie as tie
 
 -- the block and its table, as they are known before the kinds part
-abbrev one : tie.After-struct-known2 → Placed
+abbrev one : tie.After-struct-known2 → Located
 one d = d .before .before .before .before .args .one
 
 abbrev table : tie.After-struct-known2 → List ℕ

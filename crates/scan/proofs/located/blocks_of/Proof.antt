@@ -1,4 +1,4 @@
--- `scan::placed::blocks_of` meets its contract. The loop keeps that the first k entries are the records of the first k blocks. Assumes nothing.
+-- `scan::located::blocks_of` meets its contract. The loop keeps that the first k entries are the records of the first k blocks. Assumes nothing.
 use mathlib.Core.Path.{_≡_, refl, sym, ap, _∙_, subst}
 use Prim.Native.Nat.{ℕ, _-_, _≤_, _<_}
 use native.Mathlib.Omega.{arith}
@@ -11,9 +11,9 @@ use Rattle.network.specs.Check.{opened, sizes-in}
 use Rattle.network.proofs.Accepted.{accepts-exactly}
 use Rattle.scan.specs.Inner.{Legible}
 use Rattle.scan.proofs.Scanning.{is-next, is-read}
-use Rattle.scan.proofs.Placing.{Filled, one-filled, is-placed}
-use Rattle.scan.proofs.placed.blocks_of.Statement.{statement}
-use Rattle.scan.proofs.placed.blocks_of.Tie as tie
+use Rattle.scan.proofs.Locating.{Filled, one-filled, is-located}
+use Rattle.scan.proofs.located.blocks_of.Statement.{statement}
+use Rattle.scan.proofs.located.blocks_of.Tie as tie
 
 abbrev Inv-loop : tie.InvT-loop
 Inv-loop words o blocks₀ count sizes k₀ blocks k = Legible words o × (sizes ≡ sizes-in words) × (count ≡ word words 5) × (count ≤ 128) × (length blocks ≡ 128) × Filled words k blocks
@@ -90,7 +90,7 @@ loop-again c =
       v .3,
       length-set (inside .before .loop .blocks) k _ ∙ v .4,
       one-filled (now (x .words)) (inside .before .loop .blocks) (v .5) (omega (arith, v .3, v .4, inside .loop-test .taken))
-          (is-placed (now (x .words)) k (v .1) block (c .before .start .ensures) (c .start2 .ensures)),
+          (is-located (now (x .words)) k (v .1) block (c .before .start .ensures) (c .start2 .ensures)),
     )
 
 returns-2 : tie.Need-returns-2 Inv-loop μ-loop

@@ -6,23 +6,23 @@ use network::Inputs;
 use network::Node;
 use network::Opened;
 use network::Read;
-ghost use Rattle.scan.specs.Inner.{Legible, Places};
+ghost use Rattle.scan.specs.Inner.{Legible, Locates};
 
 // A block's record, and the indexes of its nodes' first words.
-pub(crate) struct Placed {
+pub(crate) struct Located {
     pub(crate) block: Block,
     pub(crate) top: usize,
     pub(crate) middle: usize,
 }
 
 // What stands where there is no block.
-fn nothing() -> Placed {
+fn nothing() -> Located {
     let node = Node {
         class: 0,
         number: 0,
     };
     let input = Input { code: 0, number: 0 };
-    Placed {
+    Located {
         block: Block {
             kind: 0,
             n: 0,
@@ -45,9 +45,9 @@ fn nothing() -> Placed {
 }
 
 // The records of a network's blocks, in their order.
-pub(crate) fn blocks_of(words: &[u16], o: Opened) -> [Placed; 128]
+pub(crate) fn blocks_of(words: &[u16], o: Opened) -> [Located; 128]
     requires { ⌜ Legible (now words) o ⌝ }
-    ensures { λ r. ⌜ Places (now (words .entry)) r ⌝ }
+    ensures { λ r. ⌜ Locates (now (words .entry)) r ⌝ }
 {
     let mut blocks = [nothing(); 128];
     let count = o.count as usize;
@@ -57,7 +57,7 @@ pub(crate) fn blocks_of(words: &[u16], o: Opened) -> [Placed; 128]
         let Read::Record(block) = network::record_at(words, o, k + 1) else {
             return blocks;
         };
-        blocks[k] = Placed {
+        blocks[k] = Located {
             block,
             top: network::start(sizes, block.top.class, block.top.number),
             middle: network::start(sizes, block.middle.class, block.middle.number),

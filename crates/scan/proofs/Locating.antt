@@ -13,30 +13,30 @@ use Rattle.network.specs.declared.block.Block.{Block}
 use Rattle.network.specs.Record.{block-at}
 use Rattle.network.specs.Check.{sizes-in, block-start}
 use Rattle.blocks.specs.View.{first-word}
-use Rattle.scan.specs.declared.placed.Placed.{Placed}
-use Rattle.scan.specs.Inner.{placed-at}
+use Rattle.scan.specs.declared.located.Located.{Located}
+use Rattle.scan.specs.Inner.{located-at}
 
--- ---- a block that is placed
-abbrev made : Block → ℕ → ℕ → Placed
+-- ---- a block that is located
+abbrev made : Block → ℕ → ℕ → Located
 made b top middle = record { block = b; top = top; middle = middle }
 
 -- ---- the first k entries are the records of the first k blocks
-abbrev pub Filled : List ℕ → ℕ → List Placed → Type 0
-Filled ws k blocks = (i : ℕ) → i < k → (otherwise : Placed) → getD blocks i otherwise ≡ placed-at ws i
+abbrev pub Filled : List ℕ → ℕ → List Located → Type 0
+Filled ws k blocks = (i : ℕ) → i < k → (otherwise : Located) → getD blocks i otherwise ≡ located-at ws i
 
-pub one-filled : (ws : List ℕ) {k : ℕ} (blocks : List Placed) {one : Placed} → Filled ws k blocks → k < length blocks → one ≡ placed-at ws k → Filled ws (k + 1) (set blocks k one)
+pub one-filled : (ws : List ℕ) {k : ℕ} (blocks : List Located) {one : Located} → Filled ws k blocks → k < length blocks → one ≡ located-at ws k → Filled ws (k + 1) (set blocks k one)
 one-filled ws {k} blocks {one} h l e i u d = go (eqb i k) refl
   where
-    go : (a : Bool) → eqb i k ≡ a → getD (set blocks k one) i d ≡ placed-at ws i
+    go : (a : Bool) → eqb i k ≡ a → getD (set blocks k one) i d ≡ located-at ws i
     go true q =
         let same : i ≡ k = eqb-true i k q in
-        ap (λ (n : ℕ). getD (set blocks k one) n d) same ∙ getD-set-same blocks k one d l ∙ e ∙ ap (placed-at ws) (sym same)
+        ap (λ (n : ℕ). getD (set blocks k one) n d) same ∙ getD-set-same blocks k one d l ∙ e ∙ ap (located-at ws) (sym same)
     go false q = let other = eqb-false i k q in getD-set-other blocks k i one d other ∙ h i (omega (arith, u)) d
 
 -- a record that was read, and the indexes that were worked out, are the next block's
-pub is-placed : (ws : List ℕ) (k : ℕ) {z : Sizes} {b : Block} {top middle : ℕ} → z ≡ sizes-in ws → b ≡ block-at ws (block-start k)
-    → top ≡ first-word z (b .top) → middle ≡ first-word z (b .middle) → made b top middle ≡ placed-at ws k
-is-placed ws k p q e f = λ i. record {
+pub is-located : (ws : List ℕ) (k : ℕ) {z : Sizes} {b : Block} {top middle : ℕ} → z ≡ sizes-in ws → b ≡ block-at ws (block-start k)
+    → top ≡ first-word z (b .top) → middle ≡ first-word z (b .middle) → made b top middle ≡ located-at ws k
+is-located ws k p q e f = λ i. record {
   block = q i;
   top = (e ∙ ap₂ (λ (y : Sizes) (c : Block). first-word y (c .top)) p q) i;
   middle = (f ∙ ap₂ (λ (y : Sizes) (c : Block). first-word y (c .middle)) p q) i;
