@@ -58,7 +58,7 @@ fn numbered(words: &[u16], table: &mut [u16], room: usize) -> Numbers
 }
 
 // The outputs that a number of a list spells.
-fn record_of(numbers: &[u16], k: usize) -> Outputs
+fn outputs_of(numbers: &[u16], k: usize) -> Outputs
     requires { ⌜ k < length (now numbers) ⌝ }
     ensures { λ r. ⌜ r ≡ unpack (getD (now (numbers .entry)) k 0) ⌝ }
 {
@@ -77,7 +77,7 @@ fn fill(outputs: &mut [Outputs], numbers: &[u16], count: usize)
 {
     let mut k = 0;
     while k < count {
-        outputs[k] = record_of(numbers, k);
+        outputs[k] = outputs_of(numbers, k);
         k += 1;
     }
 }

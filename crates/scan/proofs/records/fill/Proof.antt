@@ -1,5 +1,5 @@
 -- `scan::records::fill` meets its contract: a walk of its MIR, by hand. The list of records is opened once, before the loop, and closed
--- once, after it. A turn asks `record_of` for one record and puts it in its place. Assumes nothing.
+-- once, after it. A turn asks `outputs_of` for one record and puts it in its place. Assumes nothing.
 use mathlib.Core.Path.{_≡_, refl, sym, ap, _∙_, subst}
 use mathlib.Core.Bool.{Bool, true, false}
 use mathlib.Core.WellFounded.{WellFounded, InvImage·wf}
@@ -54,10 +54,10 @@ use Rattle.scan.specs.Records.{unpack}
 use Rattle.scan.proofs.Recording.{filled, filled-long, filled-next}
 use Rattle.scan.proofs.records.Outputs as T
 use Rattle.scan.proofs.records.Outputs.Laws as T′
-use Rattle.scan.proofs.records.record_of as record-of
-use Rattle.scan.proofs.records.record_of.Symbol as record-of-def
-use Rattle.scan.proofs.records.record_of.Symbol.{name as #record-of}
-use Rattle.scan.proofs.records.record_of.Met as record-of-thm
+use Rattle.scan.proofs.records.outputs_of as outputs-of
+use Rattle.scan.proofs.records.outputs_of.Symbol as outputs-of-def
+use Rattle.scan.proofs.records.outputs_of.Symbol.{name as #outputs-of}
+use Rattle.scan.proofs.records.outputs_of.Met as outputs-of-thm
 use Rattle.scan.proofs.records.fill.Key.{name as #fill}
 use Rattle.scan.proofs.records.fill as fill
 use Rattle.scan.proofs.records.fill.Statement as stated
@@ -78,8 +78,8 @@ words = sliceTy (tyRef (named 1) imm (tyInt w16))
 
 module _ {M : Type 1} (𝓤 : URA M) (H : Heap 𝓤) (A : Atoms 𝓤) (mem : Memory → SProp 𝓤) (run : Routine → Fun 𝓤) where
   -- the contract that the proof cites
-  abbrev RecordOf : Contract 𝓤
-  RecordOf = tripleOf 𝓤 H A record-of.signature (record-of.spec 𝓤 H A mem run)
+  abbrev OutputsOf : Contract 𝓤
+  OutputsOf = tripleOf 𝓤 H A outputs-of.signature (outputs-of.spec 𝓤 H A mem run)
 
 module _ {M : Type 1} (𝓤 : URA M) (H : Heap 𝓤) (A : Atoms 𝓤) (W : Given 𝓤 H A) (mem : Memory → SProp 𝓤) (run : Routine → Fun 𝓤) (κ κ′ : Lft) (q q′ : Share) (b o : ℕ) (γ : GName) (os : List Outputs) (ns : RefT (List ℕ)) (c : ℕ)
     (c-fits : c < 2 ^ 64) (room : Room T.the-row (length os)) (room′ : Room u16 (length (ns .now))) (within : c ≤ length os) (within′ : c ≤ length (ns .now)) where
@@ -130,17 +130,17 @@ module _ {M : Type 1} (𝓤 : URA M) (H : Heap 𝓤) (A : Atoms 𝓤) (W : Given
       nothing ! $ owned ! usize (Is usize) (uint-makes 𝓤 H A W w64) c _ (refl, c-fits) $ fjoin ! $ move ! (2 ∷ 0 ∷ []) $ fjoin ! $ move ! (1 ∷ 0 ∷ []) $ fjoin ! $
       feqI ! (List Val) (vunit ∷ []) (vunit ∷ []) refl $ move ! (1 ∷ 0 ∷ []) $ done !
 
-  -- ---- what `record_of` is asked, and what it says
-  abbrev to : ℕ → RecordOf 𝓤 H A mem run .Ghost
+  -- ---- what `outputs_of` is asked, and what it says
+  abbrev to : ℕ → OutputsOf 𝓤 H A mem run .Ghost
   to k = (((κ′, tt), (q′, tt), tt, (ns, (k, tt)), (s′ ∷ [], (vint w64 k ∷ [], tt))), tt)
 
-  asked : (k : ℕ) → k < length (ns .now) → k < 2 ^ 64 → ent 𝓤 (sep 𝓤 (A .lft κ′ q′) (sem 𝓤 H A Own)) (RecordOf 𝓤 H A mem run .pre (to k))
+  asked : (k : ℕ) → k < length (ns .now) → k < 2 ^ 64 → ent 𝓤 (sep 𝓤 (A .lft κ′ q′) (sem 𝓤 H A Own)) (OutputsOf 𝓤 H A mem run .pre (to k))
   asked k inside k-fits =
       qed W (‵ (flft κ′ q′) ∷ ‵ Own ∷ []) ∵ says ! inside $ nothing ! $ move ! (1 ∷ 0 ∷ []) $ join ! $ frame ! $
       nothing ! $ owned ! usize (Is usize) (uint-makes 𝓤 H A W w64) k _ (refl, k-fits) $ fjoin ! $ move ! (1 ∷ 0 ∷ []) $ fjoin ! $ done !
 
-  said : (k : ℕ) (r : Outputs) → ent 𝓤 (ensured 𝓤 H A record-of.ended (record-of.clauses 𝓤 H A mem run) (κ′, tt) (ns, (k, tt)) tt r) (fact 𝓤 (r ≡ unpack (getD (ns .now) k 0)))
-  said k r = exE 𝓤 _ (λ ws. snd∗ 𝓤 (sem 𝓤 H A (lasts record-of.ended (κ′, tt) (ns, (k, tt)) ws)) (fact 𝓤 (r ≡ unpack (getD (ns .now) k 0))))
+  said : (k : ℕ) (r : Outputs) → ent 𝓤 (ensured 𝓤 H A outputs-of.ended (outputs-of.clauses 𝓤 H A mem run) (κ′, tt) (ns, (k, tt)) tt r) (fact 𝓤 (r ≡ unpack (getD (ns .now) k 0)))
+  said k r = exE 𝓤 _ (λ ws. snd∗ 𝓤 (sem 𝓤 H A (lasts outputs-of.ended (κ′, tt) (ns, (k, tt)) ws)) (fact 𝓤 (r ≡ unpack (getD (ns .now) k 0))))
 
   -- ---- the loop: k records are filled
   abbrev Upto : Type 0
@@ -152,7 +152,7 @@ module _ {M : Type 1} (𝓤 : URA M) (H : Heap 𝓤) (A : Atoms 𝓤) (W : Given
   Nearer-wf : WellFounded Nearer
   Nearer-wf = InvImage·wf (λ (i : Upto). c - i .0) (Nat·lt-wfRel .wf)
 
-  module _ (𝓣 : Tables 𝓤 H) (known : Triple 𝓤 (𝓣 .C #record-of) (RecordOf 𝓤 H A mem run)) where
+  module _ (𝓣 : Tables 𝓤 H) (known : Triple 𝓤 (𝓣 .C #outputs-of) (OutputsOf 𝓤 H A mem run)) where
     abbrev C : Calls 𝓤 H
     C = 𝓣 .C
 
@@ -185,10 +185,10 @@ module _ {M : Type 1} (𝓤 : URA M) (H : Heap 𝓤) (A : Atoms 𝓤) (W : Given
       turn i true e =
           assigns ! (bin ! (load ! (from ! (stop !)) (look ! 14 refl)) (load ! (from ! (stop !)) (look ! 16 refl)) tt) (from ! (stop !)) (init ! 12 refl (tt, tt)) $
           rewrite ! 12 (λ (t : Bool). ‵ (fat fullShare tyBool l₅ 0 (vbool t))) e refl $ stays ! (load ! (from ! (stop !)) (look ! 12 refl)) $
-          -- `record_of`, which gets a copy of what the numbers own
-          move ! (5 ∷ []) $ use1 W (‵ Own ⊛ ‵ Own) (shr-slice-copy 𝓤 H A W (named 1) κ′ u16 .twice ns (s′ ∷ [])) $ split ! $ move ! (6 ∷ 0 ∷ []) $ use2 W (raw (RecordOf 𝓤 H A mem run .pre (to k))) (asked k (omega (arith, less)) (omega (arith, less))) $
-          calls-at ! fm (RecordOf 𝓤 H A mem run) known (to k) (and-then ! (load ! (from ! (stop !)) (look ! 18 refl)) (and-then ! (load ! (from ! (stop !)) (look ! 14 refl)) (no-more !))) (λ w.
-          use1 W (later (some (λ (r : Outputs). ((‵ (flft κ′ q′) ⊛ ‵ ftrue) ⊛ ‵ (T.the-row .own r (w ∷ []))) ⊛ raw (ensured 𝓤 H A record-of.ended (record-of.clauses 𝓤 H A mem run) (κ′, tt) (ns, (k, tt)) tt r)))) (id⊢ 𝓤 _) $ await ! tt $ pick ! (λ r.
+          -- `outputs_of`, which gets a copy of what the numbers own
+          move ! (5 ∷ []) $ use1 W (‵ Own ⊛ ‵ Own) (shr-slice-copy 𝓤 H A W (named 1) κ′ u16 .twice ns (s′ ∷ [])) $ split ! $ move ! (6 ∷ 0 ∷ []) $ use2 W (raw (OutputsOf 𝓤 H A mem run .pre (to k))) (asked k (omega (arith, less)) (omega (arith, less))) $
+          calls-at ! fm (OutputsOf 𝓤 H A mem run) known (to k) (and-then ! (load ! (from ! (stop !)) (look ! 18 refl)) (and-then ! (load ! (from ! (stop !)) (look ! 14 refl)) (no-more !))) (λ w.
+          use1 W (later (some (λ (r : Outputs). ((‵ (flft κ′ q′) ⊛ ‵ ftrue) ⊛ ‵ (T.the-row .own r (w ∷ []))) ⊛ raw (ensured 𝓤 H A outputs-of.ended (outputs-of.clauses 𝓤 H A mem run) (κ′, tt) (ns, (k, tt)) tt r)))) (id⊢ 𝓤 _) $ await ! tt $ pick ! (λ r.
           split ! $ move ! (1 ∷ []) $ use1 W (raw (fact 𝓤 (r ≡ unpack (getD (ns .now) k 0)))) (said k r) $ heard ! (r ≡ unpack (getD (ns .now) k 0)) (λ e′. split ! $ move ! (1 ∷ []) $
           peeks ! T.the-row (Is T.the-row) (shows 𝓤 H A T.the-row) r (w ∷ []) (λ is. land ! (from ! (stop !)) (init ! 11 refl (typed r w is)) $
           -- [what the record owns; the token; what the numbers own; the row; …; _8; …]: its place, and the store
@@ -237,13 +237,13 @@ module _ {M : Type 1} (𝓤 : URA M) (H : Heap 𝓤) (A : Atoms 𝓤) (W : Given
         first ! $ blocks ! $ loops ! 𝓣 Nearer Nearer-wf (At l₀ l₁ l₂ l₃ l₄ l₅ l₆ l₇ l₈) (λ i. turn l₀ l₁ l₂ l₃ l₄ l₅ l₆ l₇ l₈ i (ltb (i .0) c) refl) (0, zero-le))))))))))
 
 module _ {M : Type 1} (𝓤 : URA M) (H : Heap 𝓤) (A : Atoms 𝓤) (W : Given 𝓤 H A) (mem : Memory → SProp 𝓤) (run : Routine → Fun 𝓤) where
-  fill-walks : (𝓣 : Tables 𝓤 H) → Triple 𝓤 (𝓣 .C #record-of) (RecordOf 𝓤 H A mem run) → Walks 𝓤 H A fill.ended stayed (WpFn 𝓤 H (𝓣 .C) (𝓣 .Λ) code.function) (fill.clauses 𝓤 H A mem run)
+  fill-walks : (𝓣 : Tables 𝓤 H) → Triple 𝓤 (𝓣 .C #outputs-of) (OutputsOf 𝓤 H A mem run) → Walks 𝓤 H A fill.ended stayed (WpFn 𝓤 H (𝓣 .C) (𝓣 .Λ) code.function) (fill.clauses 𝓤 H A mem run)
   fill-walks 𝓣 known = walked 𝓤 H A fill.ended stayed (fill.clauses 𝓤 H A mem run) (WpFn 𝓤 H (𝓣 .C) (𝓣 .Λ) code.function)
       (λ κs. (slice-vals, (slice-vals, (uint-vals w64, tt)))) (λ κs. (mut-slice-tells (named 0) (κs .0) T.the-row, (shr-slice-tells (named 1) (κs .1 .0) u16, (uint-tells w64, tt))))
       (λ κs qs bounds a g are. needs 𝓤 ((a .1 .1 .0 ≤ length (a .0 .now)) × (a .1 .1 .0 ≤ length (a .1 .0 .now))) _ (λ within.
       walk 𝓤 H A W mem run (κs .0) (κs .1 .0) (qs .0) (qs .1 .0) (a .0 .ptr .0) (a .0 .ptr .1) (a .0 .name) (a .0 .now) (a .1 .0) (a .1 .1 .0) (are .1 .1 .0 .1) (are .0 .0 .1) (are .1 .0 .0 .1) (within .0) (within .1) 𝓣 known))
 
-fill-meets : {M : Type 1} (𝓤 : URA M) (H : Heap 𝓤) (A : Atoms 𝓤) → Given 𝓤 H A → (mem : Memory → SProp 𝓤) (run : Routine → Fun 𝓤) (𝓣 : Tables 𝓤 H) → Triple 𝓤 (𝓣 .C #record-of) (RecordOf 𝓤 H A mem run)
+fill-meets : {M : Type 1} (𝓤 : URA M) (H : Heap 𝓤) (A : Atoms 𝓤) → Given 𝓤 H A → (mem : Memory → SProp 𝓤) (run : Routine → Fun 𝓤) (𝓣 : Tables 𝓤 H) → Triple 𝓤 (𝓣 .C #outputs-of) (OutputsOf 𝓤 H A mem run)
     → Meets 𝓤 H A fill.signature (WpFn 𝓤 H (𝓣 .C) (𝓣 .Λ) code.function) (fill.spec 𝓤 H A mem run)
 fill-meets 𝓤 H A W mem run 𝓣 known =
     walk-meets 𝓤 H A fill.ended stayed W (goes-slice 𝓤 H A W 2 0 tt (plain (λ _. T.the-row)), (goes-none-slice 𝓤 H A W 2 (1 ∷ []) tt (plain (λ _. u16)) yes, (goes-none 𝓤 H A W 2 (λ _. usize) yes (λ κs x f. refl), tt)))
@@ -255,4 +255,4 @@ fill-spec 𝓤 H 𝓜 𝓖 𝓡 =
     entered 𝓤 H (tripleOf 𝓤 H (𝓖 .A) fill.signature (fill.spec 𝓤 H (𝓖 .A) (𝓜 .mem) (𝓡 .run)))
     (tables 𝓤 H 𝓜 𝓡 code.env .C) (tables 𝓤 H 𝓜 𝓡 code.env .Λ) #fill code.function (code.unfolded 𝓤 H 𝓜 𝓡)
     (fill-meets 𝓤 H (𝓖 .A) (givenOf 𝓤 H 𝓜 𝓖) (𝓜 .mem) (𝓡 .run) (tablesOf 𝓤 H 𝓜 (tables 𝓤 H 𝓜 𝓡 code.env))
-    (cited 𝓤 H (RecordOf 𝓤 H (𝓖 .A) (𝓜 .mem) (𝓡 .run)) 𝓜 𝓡 code.env #record-of record-of-def.routine code.calls-scan·records·record-of (record-of-thm.met 𝓤 H 𝓜 𝓖 𝓡)))
+    (cited 𝓤 H (OutputsOf 𝓤 H (𝓖 .A) (𝓜 .mem) (𝓡 .run)) 𝓜 𝓡 code.env #outputs-of outputs-of-def.routine code.calls-scan·records·outputs-of (outputs-of-thm.met 𝓤 H 𝓜 𝓖 𝓡)))

@@ -1,7 +1,7 @@
--- `scan::records::record_of` meets its contract. Assumes nothing.
+-- `scan::records::outputs_of` meets its contract. Assumes nothing.
 use borrow.Author.Needs.{needs}
-use Rattle.scan.proofs.records.record_of.Statement.{statement}
-use Rattle.scan.proofs.records.record_of.Tie as tie
+use Rattle.scan.proofs.records.outputs_of.Statement.{statement}
+use Rattle.scan.proofs.records.outputs_of.Tie as tie
 
 mul-number : tie.Need-mul-number
 mul-number c = search needs
@@ -21,8 +21,8 @@ bit-at-requires-3 c κs = search needs
 returns : tie.Need-returns
 returns c i = record { top = c .before .before .bit-at .ensures i; middle = c .before .bit-at2 .ensures i; bottom = c .bit-at3 .ensures i }
 
-pub record-of-spec : {M : Type 1} → statement M
-record-of-spec =
+pub outputs-of-spec : {M : Type 1} → statement M
+outputs-of-spec =
     tie.close
     (tie.spec
     mul-number
