@@ -1,0 +1,6 @@
+-- The laws of the definitions.
+pub mod Determined
+pub mod Records
+pub mod Sections
+pub mod Walk
+pub mod Words

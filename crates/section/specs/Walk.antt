@@ -1,0 +1,35 @@
+-- Words are checked from the first on, each when it is reached (document 01, "Numbers returned"). Assumes nothing.
+use Prim.Native.Nat.{ℕ, suc}
+use mathlib.Core.Bool.{Bool, cond, _||_}
+use mathlib.Core.List.{List, [], _∷_}
+use lib.Dec.{ltb, eqb}
+use lib.ListN.{getD}
+use Rattle.bits.specs.declared.Verdict.{Verdict}
+
+-- the word at an index, counted from 0; a missing word reads as 0
+abbrev pub word : List ℕ → ℕ → ℕ
+word ws i = getD ws i 0
+
+-- the first of the words
+abbrev pub first-of : List ℕ → ℕ
+first-of ws = word ws 0
+
+abbrev pub verdict : ℕ → ℕ → Verdict
+verdict number place = record { number = number; place = place }
+
+abbrev pub done : Verdict
+done = verdict 0 0
+
+-- one verdict after another: the first that refuses
+abbrev pub then : Verdict → Verdict → Verdict
+then v w = cond (eqb (v .number) 0) w v
+
+-- The words from index i on, of so many, where a list has what each earns: the number of a refusal, or 0. The verdict is 1 at the
+-- first word that is missing, and the number at the first word that earns one.
+unfoldable pub seek : List ℕ → ℕ → ℕ → Verdict
+seek [] size i = done
+seek (f ∷ fs) size i = cond (ltb i size) (cond (eqb f 0) (seek fs size (suc i)) (verdict f (suc i))) (verdict 1 (suc i))
+
+-- 11: words left over after the first `end` of so many, or an odd byte
+abbrev pub left-over : ℕ → ℕ → Bool → Verdict
+left-over end size odd = cond (ltb end size || odd) (verdict 11 (suc end)) done
