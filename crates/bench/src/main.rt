@@ -74,7 +74,7 @@ fn run_file(words: &[u16], image: usize, scans: u16, table: &mut [u16]) {
 
 // A file's words, after which an odd byte may stand.
 fn bench(words: &[u16], odd: bool) {
-    let file = benchfile::check(words, odd);
+    let file = file::check(words, odd);
     let verdict = file.verdict;
     let size = file.words;
     if verdict.number != 0 {

@@ -6,11 +6,10 @@ use Prim.Native.Nat.{ℕ, zero, suc, _+_, _/_, _%_, _<_}
 use native.Mathlib.Decide.{decLt}
 use native.Mathlib.Omega.{arith}
 use borrow.Author.Tests.{lt-ltb}
-use Rattle.network.proofs.Walk.{le-of-not-lt}
+use Rattle.section.proofs.Walk.{le-of-not-lt}
 use Rattle.io.specs.Digits.{Fewest}
 use Rattle.io.specs.Digits.{digits as kit-digits}
-use Rattle.benchfile.specs.Text.{places, digits, decimal}
-use Rattle.benchfile.specs.Decimal.{AsTheKit}
+use Rattle.benchfile.specs.Text.{places, digits, decimal, AsTheKit}
 use Rattle.benchfile.proofs.Putting.{places-1, places-2, places-3, places-4, places-5}
 
 same-digits : (k n : ℕ) → digits k n ≡ kit-digits 10 k n

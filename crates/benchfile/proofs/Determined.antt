@@ -2,13 +2,9 @@
 -- is one equation for the answer and one for each buffer. Assumes nothing.
 use mathlib.Core.Path.{sym, _∙_}
 use denote.Ref.{now}
-use Rattle.bits.specs.Promise.{Decides, DecidesBoth}
+use Rattle.bits.specs.Promise.{DecidesBoth}
 use Rattle.benchfile.proofs.bench.run.Reads as run-reads
-use Rattle.benchfile.proofs.checker.check.Reads as check-reads
 use Rattle.benchfile.proofs.convert.to_words.Reads as to-words-reads
-
-pub check : Decides check-reads.Post
-check κs a x y s t p q = p ∙ sym q
 
 pub to-words : DecidesBoth to-words-reads.Post (λ κs s. now (s .1 .0))
 to-words κs a x y s t p q = (p .answers ∙ sym (q .answers), p .leaves ∙ sym (q .leaves))

@@ -11,7 +11,7 @@ use borrow.Author.Tests.{le-leb, lt-leb}
 use lib.ListN.{length, getD, set, drop}
 use lib.Seq.{paste, paste-zero, paste-suc, length-paste, take-length}
 use Rattle.bits.specs.Promise.{Leaves}
-use Rattle.network.specs.Check.{verdict, done}
+use Rattle.section.specs.Walk.{verdict, done}
 use Rattle.benchfile.specs.Words.{word-in, words-from, words-count, words-in, odd-byte, converted, to-words, filled}
 
 pub words-length : (bs : List ℕ) (n k : ℕ) → length (words-from bs k n) ≡ n

@@ -10,12 +10,13 @@ use borrow.Author.Tests.{le-leb, eq-eqb, ne-eqb}
 use denote.Ref.{now}
 use lib.ListN.{length, drop}
 use Rattle.bits.specs.Promise.{Keeps}
-use Rattle.network.specs.Check.{verdict, done}
+use Rattle.section.specs.Walk.{verdict, done}
+use Rattle.file.specs.File.{file-in}
 use Rattle.scan.specs.Scans.{scans-table}
 use Rattle.benchfile.specs.declared.bench.Went.{Went}
 use Rattle.benchfile.specs.declared.convert.Converted.{Converted}
 use Rattle.benchfile.specs.Words.{words-count, odd-byte, converted, to-words as answer, filled}
-use Rattle.benchfile.specs.Text.{many, network-of, run-verdict, run-lines, went, run-went, run-table, run-text}
+use Rattle.benchfile.specs.Text.{many, run-verdict, run-lines, went, run-went, run-table, run-text}
 use Rattle.benchfile.proofs.Filling.{no-room}
 use Rattle.benchfile.proofs.bench.run.Reads as run-reads
 use Rattle.benchfile.proofs.convert.to_words.Reads as to-words-reads
@@ -41,17 +42,17 @@ module _ (ws t : List ℕ) (from : ℕ) (text : List ℕ) (h : run-went ws t fro
   unfolding run-went
   bad e =
       h
-      (ap (λ (b : Bool). cond b (went done (from + many ws from text) (length (run-lines ws t from (many ws from text)))) (went (run-verdict ws t from text) from 0) .verdict .number)
+      (ap (λ (b : Bool). cond b (went done (from + many (file-in ws) from text) (length (run-lines (file-in ws) t from (many (file-in ws) from text)))) (went (run-verdict ws t from text) from 0) .verdict .number)
       (eq-eqb (run-verdict ws t from text .number) 0 e))
 
   table-kept : run-table ws t from text ≡ t
   unfolding run-table
-  table-kept = ap (λ (b : Bool). cond b (scans-table (network-of ws) t (many ws from text)) t) (ne-eqb (run-verdict ws t from text .number) 0 bad)
+  table-kept = ap (λ (b : Bool). cond b (scans-table (file-in ws .network) t (many (file-in ws) from text)) t) (ne-eqb (run-verdict ws t from text .number) 0 bad)
 
   text-kept : run-text ws t from text ≡ text
   unfolding run-text
   text-kept =
-      ap (λ (b : Bool). cond b (run-lines ws t from (many ws from text) ++ drop (length (run-lines ws t from (many ws from text))) text) text)
+      ap (λ (b : Bool). cond b (run-lines (file-in ws) t from (many (file-in ws) from text) ++ drop (length (run-lines (file-in ws) t from (many (file-in ws) from text))) text) text)
       (ne-eqb (run-verdict ws t from text .number) 0 bad)
 
 pub run-keeps-table : Keeps run-reads.Post (λ κs r. r .verdict .number ≡ 0 → ⊥) (λ κs a. now (a .1 .0)) (λ κs s. now (s .1 .0))

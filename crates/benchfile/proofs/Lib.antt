@@ -1,13 +1,10 @@
 -- The laws of the definitions.
-pub mod Accepted
 pub mod Decimal
 pub mod Determined
 pub mod Examples
 pub mod Filling
-pub mod Front
 pub mod Kept
 pub mod Outcomes
 pub mod Printing
 pub mod Putting
 pub mod Running
-pub mod Tail

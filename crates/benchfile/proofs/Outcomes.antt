@@ -12,16 +12,18 @@ use Rattle.matrix.specs.Move.{moved}
 use Rattle.matrix.specs.Pointer.{reset, in-range, advanced}
 use Rattle.network.specs.Table.{reference-fault, start-of}
 use Rattle.network.specs.Rules.{rule, allows}
-use Rattle.network.specs.Record.{block-at}
-use Rattle.network.specs.Fault.{class-fault, number-fault, input-fault, faults, word-fault}
-use Rattle.network.specs.Check.{verdict, done, seek, head-faults, head-fault, fault-in, leading}
+use Rattle.section.specs.Walk.{verdict, done, seek}
+use Rattle.section.specs.Section.{section-earns, earned, meaning, judged-from, whole, records-earn, records-in}
+use Rattle.network.specs.Record.{block-in}
+use Rattle.network.specs.Fault.{faults}
+use Rattle.network.specs.Check.{sizes-faults, areas-section, block-faults, blocks-section}
+use Rattle.file.specs.File.{image-section, run-section, file-in, file-checked}
 use Rattle.blocks.specs.Kind.{kind-of}
 use Rattle.blocks.specs.Work.{block-outputs, block-table}
 use Rattle.scan.specs.Input.{passes}
-use Rattle.scan.specs.Scan.{step, steps, blocks-from}
+use Rattle.scan.specs.Scan.{step, steps}
 use Rattle.scan.specs.Scans.{pointer-of, pointers-after, scans-table}
 use Rattle.benchfile.specs.declared.bench.Went.{Went}
-use Rattle.benchfile.specs.File.{tail-fault, tail, file}
 use Rattle.benchfile.specs.Text.{places, digits, decimal, shown, line, scan-lines, scans-lines, head-line, end-line, at-once, run-verdict, run-lines, went, run-went, run-table, run-text}
 
 abbrev Outcome : Type 0
@@ -29,8 +31,8 @@ Outcome = Went × List ℕ × List ℕ
 
 unfoldable pub does : List ℕ → List ℕ → ℕ → List ℕ → Outcome
 unfolding run-went run-table run-text run-verdict run-lines at-once scans-lines scan-lines line shown head-line end-line decimal digits places
-    file tail tail-fault leading fault-in head-fault head-faults seek word-fault faults class-fault number-fault input-fault reference-fault rule allows block-at
-    scans-table pointers-after pointer-of kind-of step steps blocks-from passes block-table block-outputs
+    file-in file-checked whole judged-from earned meaning section-earns image-section run-section areas-section sizes-faults blocks-section records-earn records-in block-faults seek faults reference-fault rule allows block-in
+    scans-table pointers-after pointer-of kind-of step steps passes block-table block-outputs
     combined first moved reset in-range advanced start-of matrix value bit xor
 does ws t from text = (run-went ws t from text, run-table ws t from text, run-text ws t from text)
 

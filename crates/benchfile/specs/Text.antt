@@ -1,20 +1,21 @@
 -- The lines of a run (document 01, "The bench program"): a first line with blocks and table words, a line for each block of each
 -- scan, a last line with the scans. Fields are parted by a space, lines end in a line feed; bytes are ASCII. Assumes nothing.
-use Prim.Native.Nat.{ℕ, zero, suc, _+_, _-_, _/_, _%_}
+use Prim.Native.Nat.{ℕ, zero, suc, _+_, _-_, _/_, _%_, _<_}
+use mathlib.Core.Path.{_≡_}
 use mathlib.Core.Bool.{Bool, false, cond, _&&_}
 use mathlib.Core.List.{List, [], _∷_, _++_}
 use lib.Dec.{leb, ltb, eqb}
-use lib.ListN.{length, getD, take, drop}
+use lib.ListN.{length, getD, drop}
+use Rattle.io.specs.Digits.{Fewest, digits as kit-digits}
 use Rattle.bits.specs.declared.Verdict.{Verdict}
-use Rattle.network.specs.Record.{word, block-at}
-use Rattle.network.specs.Check.{verdict, done, then, block-start, network-end}
-use Rattle.blocks.specs.declared.Power.{Power}
-use Rattle.blocks.specs.Kind.{kind-of}
-use Rattle.scan.specs.Input.{no-power}
+use Rattle.blocks.specs.declared.Outputs.{Outputs}
+use Rattle.benchfile.specs.declared.bench.Went.{Went}
+use Rattle.section.specs.Walk.{verdict, done, then}
+use Rattle.network.specs.Network.{Network, block-count, block-of}
+use Rattle.file.specs.File.{File, table-words, file-in, file-checked}
+use Rattle.scan.specs.Input.{no-outputs}
 use Rattle.scan.specs.Scan.{scanned}
 use Rattle.scan.specs.Scans.{has-pointer, scan-pointers, scans-table}
-use Rattle.benchfile.specs.declared.bench.Went.{Went}
-use Rattle.benchfile.specs.File.{image-words, scans-in, file}
 
 -- ---- numbers
 
@@ -41,36 +42,36 @@ field n = decimal n ++ 32 ∷ []
 abbrev pub digit : Bool → ℕ
 digit on = cond on 49 48
 
-abbrev pub outputs : Power → List ℕ
+abbrev pub outputs : Outputs → List ℕ
 outputs out = digit (out .top) ∷ 32 ∷ digit (out .middle) ∷ 32 ∷ digit (out .bottom) ∷ 32 ∷ []
 
 -- the pointer, or `-` for kinds without one
 unfoldable pub shown : ℕ → ℕ → List ℕ
-unfolding kind-of decimal
-shown kind pointer = cond (has-pointer (kind-of kind)) (decimal pointer) (45 ∷ [])
+unfolding decimal
+shown kind pointer = cond (has-pointer kind) (decimal pointer) (45 ∷ [])
 
-unfoldable pub line : ℕ → ℕ → Power → List ℕ → List ℕ
+unfoldable pub line : ℕ → ℕ → Outputs → List ℕ → List ℕ
 unfolding decimal
 line s k out mark = field s ++ field k ++ outputs out ++ mark ++ 10 ∷ []
 
 -- ---- the lines of scans of a network
 
 -- the line of the block after the first i, in scan s, which is of table t
-abbrev pub block-line : List ℕ → List ℕ → ℕ → ℕ → List ℕ
-block-line ws t s i =
-    line s (i + 1) (getD (scanned ws t .outs) i no-power) (shown (block-at ws (block-start i) .kind) (getD (scan-pointers ws t) i 0))
+abbrev pub block-line : Network → List ℕ → ℕ → ℕ → List ℕ
+block-line net t s i =
+    line s (i + 1) (getD (scanned net t .outs) i no-outputs) (shown (block-of net i .kind) (getD (scan-pointers net t) i 0))
 
 -- of the first i blocks
-unfoldable pub scan-lines : List ℕ → List ℕ → ℕ → ℕ → List ℕ
+unfoldable pub scan-lines : Network → List ℕ → ℕ → ℕ → List ℕ
 unfolding line shown
-scan-lines ws t s zero = []
-scan-lines ws t s (suc i) = scan-lines ws t s i ++ block-line ws t s i
+scan-lines net t s zero = []
+scan-lines net t s (suc i) = scan-lines net t s i ++ block-line net t s i
 
 -- of j scans, scan s the first, each of the table that the one before left
-unfoldable pub scans-lines : List ℕ → List ℕ → ℕ → ℕ → List ℕ
+unfoldable pub scans-lines : Network → List ℕ → ℕ → ℕ → List ℕ
 unfolding scan-lines scans-table
-scans-lines ws t s zero = []
-scans-lines ws t s (suc j) = scans-lines ws t s j ++ scan-lines ws (scans-table ws t j) (s + j) (word ws 5)
+scans-lines net t s zero = []
+scans-lines net t s (suc j) = scans-lines net t s j ++ scan-lines net (scans-table net t j) (s + j) (block-count net)
 
 -- ---- the first line, `blocks B words W`, and the last, `end S`
 unfoldable pub head-line : ℕ → ℕ → List ℕ
@@ -95,28 +96,24 @@ at-once count room left =
     (cond (eqb count 0) left
     (cond (ltb (most-lines room / count) left) (most-lines room / count) left))
 
-abbrev pub many : List ℕ → ℕ → List ℕ → ℕ
-many ws from text = at-once (word ws 5) (length text) (scans-in ws + 1 - from)
+abbrev pub many : File → ℕ → List ℕ → ℕ
+many f from text = at-once (block-count (f .network)) (length text) (f .run + 1 - from)
 
 -- the file's refusals, then 12 for a table that is not exactly the sum of the areas, a scan that is not 1 to the file's, or a
 -- buffer with no room for its lines
 unfoldable pub run-verdict : List ℕ → List ℕ → ℕ → List ℕ → Verdict
-unfolding file at-once
+unfolding at-once
 run-verdict ws t from text =
-    then (file ws false .verdict)
-    (cond (eqb (length t) (image-words ws) && (leb 1 from && (leb from (scans-in ws) && leb 1 (many ws from text)))) done (verdict 12 0))
-
--- the network of a file
-abbrev pub network-of : List ℕ → List ℕ
-network-of ws = take (network-end ws) ws
+    then (file-checked ws false)
+    (cond (eqb (length t) (table-words (file-in ws)) && (leb 1 from && (leb from (file-in ws .run) && leb 1 (many (file-in ws) from text)))) done (verdict 12 0))
 
 -- what m scans print, with the first line before scan 1 and the last after the file's last scan
-unfoldable pub run-lines : List ℕ → List ℕ → ℕ → ℕ → List ℕ
+unfoldable pub run-lines : File → List ℕ → ℕ → ℕ → List ℕ
 unfolding scans-lines head-line end-line
-run-lines ws t from m =
-    cond (eqb from 1) (head-line (word ws 5) (image-words ws)) []
-    ++ scans-lines (network-of ws) t from m
-    ++ cond (eqb (from + m) (scans-in ws + 1)) (end-line (scans-in ws)) []
+run-lines f t from m =
+    cond (eqb from 1) (head-line (block-count (f .network)) (table-words f)) []
+    ++ scans-lines (f .network) t from m
+    ++ cond (eqb (from + m) (f .run + 1)) (end-line (f .run)) []
 
 abbrev pub went : Verdict → ℕ → ℕ → Went
 went v next bytes = record { verdict = v; next = next; bytes = bytes }
@@ -125,18 +122,22 @@ unfoldable pub run-went : List ℕ → List ℕ → ℕ → List ℕ → Went
 unfolding run-verdict run-lines at-once
 run-went ws t from text =
     cond (eqb (run-verdict ws t from text .number) 0)
-    (went done (from + many ws from text) (length (run-lines ws t from (many ws from text))))
+    (went done (from + many (file-in ws) from text) (length (run-lines (file-in ws) t from (many (file-in ws) from text))))
     (went (run-verdict ws t from text) from 0)
 
 unfoldable pub run-table : List ℕ → List ℕ → ℕ → List ℕ → List ℕ
 unfolding run-verdict scans-table at-once
 run-table ws t from text =
-    cond (eqb (run-verdict ws t from text .number) 0) (scans-table (network-of ws) t (many ws from text)) t
+    cond (eqb (run-verdict ws t from text .number) 0) (scans-table (file-in ws .network) t (many (file-in ws) from text)) t
 
 -- the lines at the front; what stands after them stays
 unfoldable pub run-text : List ℕ → List ℕ → ℕ → List ℕ → List ℕ
 unfolding run-verdict run-lines at-once
 run-text ws t from text =
     cond (eqb (run-verdict ws t from text .number) 0)
-    (run-lines ws t from (many ws from text) ++ drop (length (run-lines ws t from (many ws from text))) text)
+    (run-lines (file-in ws) t from (many (file-in ws) from text) ++ drop (length (run-lines (file-in ws) t from (many (file-in ws) from text))) text)
     text
+
+-- ---- the digits of a number are those of the kit's `io::decimal`, and there are no more than it needs
+abbrev pub AsTheKit : Type 0
+AsTheKit = (n : ℕ) → n < 65536 → Fewest 10 1 n (places n) × (decimal n ≡ kit-digits 10 (places n) n)

@@ -6,7 +6,7 @@ use mathlib.Core.List.{List, [], _∷_, _++_}
 use lib.Dec.{leb, eqb}
 use lib.ListN.{length, getD, drop}
 use Rattle.bits.specs.declared.Verdict.{Verdict}
-use Rattle.network.specs.Check.{verdict, done}
+use Rattle.section.specs.Walk.{verdict, done}
 use Rattle.benchfile.specs.declared.convert.Converted.{Converted}
 
 abbrev pub byte : List ℕ → ℕ → ℕ

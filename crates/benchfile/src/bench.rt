@@ -1,11 +1,9 @@
 // A run of a file's scans, some at a time: the scans on the table, and the lines that they print.
-use crate::checker::File;
-use crate::checker::check;
 use crate::lines::put_end;
 use crate::lines::put_head;
 use crate::lines::put_scans;
 use bits::Verdict;
-use network::Opened;
+use file::OpenedFile;
 ghost use mathlib.Core.Path.{_≡_};
 ghost use Prim.Native.Nat.{_≤_};
 ghost use Rattle.bits.specs.Promise.{LeavesTwo};
@@ -54,7 +52,7 @@ fn at_once(count: u16, room: usize, left: u16) -> u16
 // So many scans of a file that was checked before, and their lines at the front of the buffer; the answer is how many bytes.
 fn scan_and_print(
     words: &[u16],
-    file: File,
+    file: OpenedFile,
     table: &mut [u16],
     from: u16,
     times: u16,
@@ -64,20 +62,13 @@ fn scan_and_print(
     ensures { λ r. ⌜
         Done (now (words .entry)) (now (table .entry)) from times (now (text .entry)) r (now (table .exit)) (now (text .exit)) ⌝ }
 {
-    let end = file.image - 1;
+    let o = file.network;
+    let end = o.next;
     let network = &words[..end];
-    let verdict = file.verdict;
-    let sizes = file.sizes;
-    let o = Opened {
-        verdict,
-        sizes,
-        count: file.count,
-        next: end,
-    };
     let mut outputs = [0u16; 4096];
     let mut pointers = [0u16; 4096];
     scan::scans(network, table, times, &mut outputs, &mut pointers);
-    let at = put_head(text, from, file.count, file.words as u16);
+    let at = put_head(text, from, o.count, file.words as u16);
     let at = put_scans(text, at, network, o, from, times, &outputs, &pointers);
     put_end(text, at, from + times, file.scans)
 }
@@ -92,7 +83,7 @@ pub fn run(words: &[u16], table: &mut [u16], from: u16, text: &mut [u8]) -> Went
         (run-text (now (words .entry)) (now (table .entry)) from (now (text .entry)))
         r (now (table .exit)) (now (text .exit)) ⌝ }
 {
-    let file = check(words, false);
+    let file = file::check(words, false);
     let verdict = file.verdict;
     if verdict.number != 0 {
         return Went {
@@ -118,7 +109,7 @@ pub fn run(words: &[u16], table: &mut [u16], from: u16, text: &mut [u8]) -> Went
     if file.scans < from {
         return short;
     }
-    let times = at_once(file.count, text.len(), file.scans + 1 - from);
+    let times = at_once(file.network.count, text.len(), file.scans + 1 - from);
     if times < 1 {
         return short;
     }

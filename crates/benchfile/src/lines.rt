@@ -11,7 +11,8 @@ ghost use mathlib.Core.Bool.{cond};
 ghost use mathlib.Core.List.{[]};
 ghost use lib.Dec.{eqb};
 ghost use lib.ListN.{length};
-ghost use Rattle.network.specs.Record.{word};
+ghost use Rattle.network.specs.Network.{block-count};
+ghost use Rattle.network.specs.Check.{network-in};
 ghost use Rattle.scan.specs.Scan.{unpacked};
 ghost use Rattle.benchfile.specs.Text.{outputs, shown, line, head-line, end-line};
 ghost use Rattle.benchfile.specs.Inner.{Put, digit-of, entry-lines, entries, OneFits, AllFit};
@@ -87,8 +88,8 @@ fn put_scan(
 ) -> usize
     requires { ⌜ OneFits (now words) o (now packs) (now marks) first (now text) at ⌝ }
     ensures { λ r. ⌜
-        Put (32 * word (now (words .entry)) 5) (now (text .entry)) at
-        (entry-lines (now (words .entry)) (now (packs .entry)) (now (marks .entry)) scan first (word (now (words .entry)) 5))
+        Put (32 * block-count (network-in (now (words .entry)))) (now (text .entry)) at
+        (entry-lines (network-in (now (words .entry))) (now (packs .entry)) (now (marks .entry)) scan first (block-count (network-in (now (words .entry)))))
         r (now (text .exit)) ⌝ }
 {
     let count = o.count;
@@ -127,8 +128,8 @@ pub(crate) fn put_scans(
 ) -> usize
     requires { ⌜ AllFit (now words) o (now packs) (now marks) from times (now text) at ⌝ }
     ensures { λ r. ⌜
-        Put (32 * (times * word (now (words .entry)) 5)) (now (text .entry)) at
-        (entries (now (words .entry)) (now (packs .entry)) (now (marks .entry)) from times)
+        Put (32 * (times * block-count (network-in (now (words .entry))))) (now (text .entry)) at
+        (entries (network-in (now (words .entry))) (now (packs .entry)) (now (marks .entry)) from times)
         r (now (text .exit)) ⌝ }
 {
     let count = o.count as usize;

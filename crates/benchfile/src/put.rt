@@ -1,13 +1,13 @@
 // Bytes and numbers put into a lent buffer, from a place on. Each answers the place after what it put.
 ghost use Prim.Native.Nat.{_+_, _≤_, _<_};
-ghost use mathlib.Core.List.{_++_};
+ghost use mathlib.Core.List.{_++_, [], _∷_};
 ghost use lib.ListN.{length};
 ghost use Rattle.benchfile.specs.Text.{digits, decimal};
-ghost use Rattle.benchfile.specs.Inner.{Put, one-byte};
+ghost use Rattle.benchfile.specs.Inner.{Put};
 
 pub(crate) fn put_byte(text: &mut [u8], at: usize, byte: u8) -> usize
     requires { ⌜ at < length (now text) ⌝ }
-    ensures { λ r. ⌜ Put 1 (now (text .entry)) at (one-byte byte) r (now (text .exit)) ⌝ }
+    ensures { λ r. ⌜ Put 1 (now (text .entry)) at (byte ∷ []) r (now (text .exit)) ⌝ }
 {
     text[at] = byte;
     at + 1
@@ -70,7 +70,7 @@ pub(crate) fn put_number(text: &mut [u8], at: usize, n: u16) -> usize
 // A number and the byte that ends its field.
 pub(crate) fn put_field(text: &mut [u8], at: usize, n: u16, byte: u8) -> usize
     requires { ⌜ at + 6 ≤ length (now text) ⌝ }
-    ensures { λ r. ⌜ Put 6 (now (text .entry)) at (decimal n ++ one-byte byte) r (now (text .exit)) ⌝ }
+    ensures { λ r. ⌜ Put 6 (now (text .entry)) at (decimal n ++ byte ∷ []) r (now (text .exit)) ⌝ }
 {
     let next = put_number(text, at, n);
     put_byte(text, next, byte)

@@ -6,22 +6,23 @@ use mathlib.Core.Bool.{Bool, true, false, xor}
 use mathlib.Core.List.{List, [], _∷_}
 use Prim.Native.Nat.{ℕ}
 use Rattle.bits.specs.Bit.{bit, value, matrix}
-use Rattle.network.specs.declared.sizes.Sizes.{Sizes}
 use Rattle.network.specs.declared.block.Node.{Node}
 use Rattle.network.specs.declared.block.Input.{Input}
 use Rattle.network.specs.declared.block.Coils.{Coils}
 use Rattle.network.specs.declared.block.Block.{Block}
 use Rattle.network.specs.Table.{start-of}
+use Rattle.network.specs.Network.{Network, areas-only}
 use Rattle.matrix.specs.Logic.{combined}
 use Rattle.matrix.specs.Search.{first}
 use Rattle.matrix.specs.Move.{moved}
 use Rattle.matrix.specs.Pointer.{reset, in-range, advanced}
 use Rattle.blocks.specs.declared.Power.{Power}
+use Rattle.blocks.specs.declared.Outputs.{Outputs}
 use Rattle.blocks.specs.Work.{block-outputs, block-table}
 
 -- a table of one word of coils and four holding registers
-abbrev z : Sizes
-z = record { coils = 1; discretes = 0; inputs = 0; holding = 4 }
+abbrev net : Network
+net = areas-only (record { coils = 1; discretes = 0; inputs = 0; holding = 4 })
 
 abbrev never : Input
 never = record { code = 0; number = 0 }
@@ -55,8 +56,11 @@ power top middle bottom = record { top = top; middle = middle; bottom = bottom }
 abbrev top-only : Power
 top-only = power true false false
 
-abbrev does : Block → List ℕ → Power → List ℕ × Power
-does b t on = (block-table z b t on, block-outputs z b t on)
+abbrev out : Bool → Bool → Bool → Outputs
+out top middle bottom = record { top = top; middle = middle; bottom = bottom }
+
+abbrev does : Block → List ℕ → Power → List ℕ × Outputs
+does b t on = (block-table net b t on, block-outputs net b t on)
 
 abbrev table : ℕ → ℕ → ℕ → ℕ → ℕ → List ℕ
 table c a b d e = c ∷ a ∷ b ∷ d ∷ e ∷ []
@@ -66,7 +70,7 @@ table c a b d e = c ∷ a ∷ b ∷ d ∷ e ∷ []
 -- constant that is asked to reset and increase, with reset and increase, at 0, at 16n, over 16n, and reset without power;
 -- MBIT at 0 with increase
 pub edges :
-    _≡_ {A = List (List ℕ × Power)}
+    _≡_ {A = List (List ℕ × Outputs)}
     (does (usual 5 1) (table 0 0x8001 16 0x0000 0) top-only
     ∷ does (coiled 5 1) (table 0xffff 0x8001 7 0x0000 0) (power false false false)
     ∷ does (coiled 5 1) (table 0x0000 0x8001 0 0x0000 0) top-only
@@ -83,21 +87,21 @@ pub edges :
     ∷ does (usual 7 1) (table 0 17 0xffff 0 0) (power false true true)
     ∷ does (usual 6 1) (table 0 0 0x0000 0 0) (power true true true)
     ∷ [])
-    ((table 0 0x8001 1 0x0000 0, power true true true)
-    ∷ (table 0x1fff 0x8001 7 0x0000 0, power false false false)
-    ∷ (table 0xe000 0x8001 1 0x0000 0, power true true true)
-    ∷ (table 0xc000 0x0000 2 0x4000 0, power true true false)
-    ∷ (table 0 0x8001 0 0x0000 0, power false false false)
-    ∷ (table 0 0 13 0x0000 0, power true true true)
-    ∷ (table 0 0x2003 0 0 0, power true true false)
-    ∷ (table 0 4 0 0 0, power true true false)
-    ∷ (table 0 0 0x4000 0 0, power true true false)
-    ∷ (table 0 2 0x8000 0 0, power true true false)
-    ∷ (table 0 1 0xffff 0 0, power true false false)
-    ∷ (table 0 1 0x0001 0 0, power true true false)
-    ∷ (table 0 17 0xffff 0 0, power true false true)
-    ∷ (table 0 1 0xffff 0 0, power false false false)
-    ∷ (table 0 1 0x0000 0 0, power true false false)
+    ((table 0 0x8001 1 0x0000 0, out true true true)
+    ∷ (table 0x1fff 0x8001 7 0x0000 0, out false false false)
+    ∷ (table 0xe000 0x8001 1 0x0000 0, out true true true)
+    ∷ (table 0xc000 0x0000 2 0x4000 0, out true true false)
+    ∷ (table 0 0x8001 0 0x0000 0, out false false false)
+    ∷ (table 0 0 13 0x0000 0, out true true true)
+    ∷ (table 0 0x2003 0 0 0, out true true false)
+    ∷ (table 0 4 0 0 0, out true true false)
+    ∷ (table 0 0 0x4000 0 0, out true true false)
+    ∷ (table 0 2 0x8000 0 0, out true true false)
+    ∷ (table 0 1 0xffff 0 0, out true false false)
+    ∷ (table 0 1 0x0001 0 0, out true true false)
+    ∷ (table 0 17 0xffff 0 0, out true false true)
+    ∷ (table 0 1 0xffff 0 0, out false false false)
+    ∷ (table 0 1 0x0000 0 0, out true false false)
     ∷ [])
 unfolding block-table block-outputs combined first moved reset in-range advanced start-of matrix value bit xor
 edges = refl

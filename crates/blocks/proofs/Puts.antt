@@ -14,7 +14,7 @@ use Rattle.bits.specs.Bit.{odd, bit, matrix}
 use Rattle.bits.proofs.Matrix.{matrix-length, bit-matrix}
 use Rattle.matrix.specs.Run.{run, placed}
 use Rattle.matrix.proofs.Runs.{run-at}
-use Rattle.network.specs.declared.sizes.Sizes.{Sizes}
+use Rattle.network.specs.Network.{Network}
 use Rattle.blocks.specs.Work.{matrix-put, coil-put}
 use Rattle.blocks.specs.Truths.{matrix-bit, coil-bit, or-stays}
 
@@ -104,56 +104,56 @@ put-length s none t h = refl
 put-length s (some m) t h = placed-length t s m (h m refl)
 
 -- ---- a coil
-coil-area : (z : Sizes) (number : ℕ) (on : Bool) (t : List ℕ) → List ℕ
-coil-area z number on t = matrix (z .coils) (λ p. cond (eqb p number) on (bit (run t 0 (z .coils)) p))
+coil-area : (net : Network) (number : ℕ) (on : Bool) (t : List ℕ) → List ℕ
+coil-area net number on t = matrix (net .sizes .coils) (λ p. cond (eqb p number) on (bit (run t 0 (net .sizes .coils)) p))
 
-module _ (z : Sizes) (number : ℕ) (on : Bool) (t : List ℕ) (h : z .coils ≤ length t) where
-  long : length (coil-area z number on t) ≡ z .coils
+module _ (net : Network) (number : ℕ) (on : Bool) (t : List ℕ) (h : net .sizes .coils ≤ length t) where
+  long : length (coil-area net number on t) ≡ net .sizes .coils
   unfolding coil-area
-  long = matrix-length (z .coils) (λ p. cond (eqb p number) on (bit (run t 0 (z .coils)) p))
+  long = matrix-length (net .sizes .coils) (λ p. cond (eqb p number) on (bit (run t 0 (net .sizes .coils)) p))
 
-  room : 0 + length (coil-area z number on t) ≤ length t
+  room : 0 + length (coil-area net number on t) ≤ length t
   room = omega (arith, long)
 
-  area-bit : (p : ℕ) → 1 ≤ p → p ≤ 16 * z .coils → bit (coil-area z number on t) p ≡ cond (eqb p number) on (bit t p)
+  area-bit : (p : ℕ) → 1 ≤ p → p ≤ 16 * net .sizes .coils → bit (coil-area net number on t) p ≡ cond (eqb p number) on (bit t p)
   unfolding coil-area
   area-bit zero l u = absurd (omega arith)
   area-bit (suc i) l u =
-      bit-matrix (z .coils) (λ p. cond (eqb p number) on (bit (run t 0 (z .coils)) p)) i (omega arith)
-      ∙ ap (cond (eqb (suc i) number) on) (same-bit (run t 0 (z .coils)) t i i refl (run-at t 0 (z .coils) (i / 16) (omega arith) ∙ ap (λ (k : ℕ). getD t k 0) (omega arith)))
+      bit-matrix (net .sizes .coils) (λ p. cond (eqb p number) on (bit (run t 0 (net .sizes .coils)) p)) i (omega arith)
+      ∙ ap (cond (eqb (suc i) number) on) (same-bit (run t 0 (net .sizes .coils)) t i i refl (run-at t 0 (net .sizes .coils) (i / 16) (omega arith) ∙ ap (λ (k : ℕ). getD t k 0) (omega arith)))
 
-  pub coil-length : length (coil-put z number on t) ≡ length t
+  pub coil-length : length (coil-put net number on t) ≡ length t
   unfolding coil-put coil-area
   coil-length = go (eqb number 0)
     where
-      go : (a : Bool) → length (cond a t (placed t 0 (coil-area z number on t))) ≡ length t
+      go : (a : Bool) → length (cond a t (placed t 0 (coil-area net number on t))) ≡ length t
       go true = refl
-      go false = placed-length t 0 (coil-area z number on t) room
+      go false = placed-length t 0 (coil-area net number on t) room
 
   -- the words after the coil area stay
-  pub coil-word : (k : ℕ) → z .coils ≤ k → getD (coil-put z number on t) k 0 ≡ getD t k 0
+  pub coil-word : (k : ℕ) → net .sizes .coils ≤ k → getD (coil-put net number on t) k 0 ≡ getD t k 0
   unfolding coil-put coil-area
   coil-word k l = go (eqb number 0)
     where
       area : List ℕ
-      area = coil-area z number on t
+      area = coil-area net number on t
 
-      there : 0 + (length area + (k - z .coils)) ≡ k
+      there : 0 + (length area + (k - net .sizes .coils)) ≡ k
       there = omega (arith, long)
 
       go : (a : Bool) → getD (cond a t (placed t 0 area)) k 0 ≡ getD t k 0
       go true = refl
       go false =
           ap (λ (x : ℕ). getD (placed t 0 area) x 0) (sym there)
-          ∙ word-above t 0 area room (k - z .coils)
+          ∙ word-above t 0 area room (k - net .sizes .coils)
           ∙ ap (λ (x : ℕ). getD t x 0) (omega (arith, long))
 
-  pub coil-bits : number ≤ 16 * z .coils → (p : ℕ) → bit (coil-put z number on t) p ≡ or-stays (coil-bit number on p) (bit t p)
+  pub coil-bits : number ≤ 16 * net .sizes .coils → (p : ℕ) → bit (coil-put net number on t) p ≡ or-stays (coil-bit number on p) (bit t p)
   unfolding coil-put coil-area
-  coil-bits l p = go (eqb number 0) refl (eqb p number) refl (leb 1 p) refl (leb p (16 * z .coils)) refl
+  coil-bits l p = go (eqb number 0) refl (eqb p number) refl (leb 1 p) refl (leb p (16 * net .sizes .coils)) refl
     where
       area : List ℕ
-      area = coil-area z number on t
+      area = coil-area net number on t
 
       here : (b : Bool) → cond b on (bit t p) ≡ or-stays (cond b (some on) none) (bit t p)
       here true = refl
@@ -163,18 +163,18 @@ module _ (z : Sizes) (number : ℕ) (on : Bool) (t : List ℕ) (h : z .coils ≤
       outside e true f = absurd (false≢true (sym e ∙ f))
       outside e false f = refl
 
-      go : (a : Bool) → eqb number 0 ≡ a → (b : Bool) → eqb p number ≡ b → (c : Bool) → leb 1 p ≡ c → (d : Bool) → leb p (16 * z .coils) ≡ d
+      go : (a : Bool) → eqb number 0 ≡ a → (b : Bool) → eqb p number ≡ b → (c : Bool) → leb 1 p ≡ c → (d : Bool) → leb p (16 * net .sizes .coils) ≡ d
           → bit (cond a t (placed t 0 area)) p ≡ or-stays (cond a none (cond b (some on) none)) (bit t p)
       go true e b f c g d k = refl
       go false e b f true g true k =
-          bit-inside t 0 area room p (omega (arith, leb-true 1 p g)) (omega (arith, long, leb-true p (16 * z .coils) k))
+          bit-inside t 0 area room p (omega (arith, leb-true 1 p g)) (omega (arith, long, leb-true p (16 * net .sizes .coils) k))
           ∙ ap (bit area) (omega arith)
-          ∙ area-bit p (leb-true 1 p g) (leb-true p (16 * z .coils) k)
+          ∙ area-bit p (leb-true 1 p g) (leb-true p (16 * net .sizes .coils) k)
           ∙ ap (λ (x : Bool). cond x on (bit t p)) f
           ∙ here b
       go false e b f true g false k =
-          bit-above t 0 area room p (omega (arith, long, leb-false p (16 * z .coils) k))
-          ∙ outside (ne-eqb p number (λ q. omega (arith, leb-false p (16 * z .coils) k))) b f
+          bit-above t 0 area room p (omega (arith, long, leb-false p (16 * net .sizes .coils) k))
+          ∙ outside (ne-eqb p number (λ q. omega (arith, leb-false p (16 * net .sizes .coils) k))) b f
       go false e b f false g d k =
           bit-below t 0 area room p (omega (arith, leb-false 1 p g))
           ∙ outside (ne-eqb p number (λ q. eqb-false number 0 e (omega (arith, leb-false 1 p g)))) b f

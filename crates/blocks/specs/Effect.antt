@@ -6,9 +6,7 @@ use mathlib.Core.List.{List}
 use mathlib.Core.Option.{Option, none, some}
 use lib.Dec.{eqb, ltb}
 use Rattle.bits.specs.Bit.{bit, matrix}
-use Rattle.matrix.specs.declared.logic.Operation.{Operation}
-use Rattle.matrix.specs.declared.logic.Operation.the-variants.{And, Or, Xor, Comp}
-use Rattle.matrix.specs.declared.pointer.Pointer.{Pointer}
+use Rattle.matrix.specs.declared.{logic.Operation.Operation, logic.Operation.the-variants.And, logic.Operation.the-variants.Or, logic.Operation.the-variants.Xor, logic.Operation.the-variants.Comp, pointer.Pointer.Pointer}
 use Rattle.matrix.specs.Logic.{combined}
 use Rattle.matrix.specs.Search.{first, first-differing}
 use Rattle.matrix.specs.Move.{leaving, moved}

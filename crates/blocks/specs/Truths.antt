@@ -11,8 +11,8 @@ use lib.ListN.{length}
 use Rattle.bits.specs.Bit.{bit}
 use Rattle.matrix.specs.Search.{NoneLater}
 use Rattle.matrix.specs.Pointer.{in-range}
-use Rattle.network.specs.declared.sizes.Sizes.{Sizes}
 use Rattle.network.specs.declared.block.Block.{Block}
+use Rattle.network.specs.Network.{Network}
 use Rattle.network.specs.Table.{total}
 use Rattle.network.specs.Sound.{GoodBlock}
 use Rattle.blocks.specs.declared.Power.{Power}
@@ -38,13 +38,13 @@ later none earlier = earlier
 later (some x) earlier = some x
 
 -- what the block puts at a position: none where it writes nothing
-abbrev pub bit-written : Sizes → Block → Power → Effect → ℕ → Option Bool
-bit-written z b on e p =
+abbrev pub bit-written : Network → Block → Power → Effect → ℕ → Option Bool
+bit-written net b on e p =
     later (coil-bit (b .coils .bottom) (e .bottom) p)
     (later (coil-bit (b .coils .middle) (e .middle) p)
     (later (coil-bit (b .coils .top) (on .top) p)
-    (later (matrix-bit (first-word z (pointer-node (kind-of (b .kind)) b)) (one-word (e .pointer)) p)
-    (matrix-bit (first-word z (b .middle)) (e .destination) p))))
+    (later (matrix-bit (first-word net (pointer-node (kind-of (b .kind)) b)) (one-word (e .pointer)) p)
+    (matrix-bit (first-word net (b .middle)) (e .destination) p))))
 
 -- the bit that was there, unless another is written
 abbrev pub or-stays : Option Bool → Bool → Bool
@@ -54,42 +54,42 @@ or-stays (some x) there = x
 -- ---- the truths
 
 -- a block that the checker takes, and a table of exactly its areas
-pub record Runs (z : Sizes) (earlier : ℕ) (b : Block) (t : List ℕ) : Type 0 where
-  pub good : GoodBlock z earlier b
-  pub exact : length t ≡ total z
+pub record Runs (net : Network) (earlier : ℕ) (b : Block) (t : List ℕ) : Type 0 where
+  pub good : GoodBlock (net .sizes) earlier b
+  pub exact : length t ≡ total (net .sizes)
 
 -- the table stays as long as it was
 abbrev pub SameLong : Type 0
 SameLong =
-    (z : Sizes) (earlier : ℕ) (b : Block) (t : List ℕ) → Runs z earlier b t → (on : Power) → length (block-table z b t on) ≡ length t
+    (net : Network) (earlier : ℕ) (b : Block) (t : List ℕ) → Runs net earlier b t → (on : Power) → length (block-table net b t on) ≡ length t
 
 -- every bit of the table afterwards
 abbrev pub EveryBit : Type 0
 EveryBit =
-    (z : Sizes) (earlier : ℕ) (b : Block) (t : List ℕ) → Runs z earlier b t → (on : Power) (p : ℕ) →
-    bit (block-table z b t on) p ≡ or-stays (bit-written z b on (effect-on z b t on) p) (bit t p)
+    (net : Network) (earlier : ℕ) (b : Block) (t : List ℕ) → Runs net earlier b t → (on : Power) (p : ℕ) →
+    bit (block-table net b t on) p ≡ or-stays (bit-written net b on (effect-on net b t on) p) (bit t p)
 
 -- the frame: a block changes no bit but those that it writes
 abbrev pub Frame : Type 0
 Frame =
-    (z : Sizes) (earlier : ℕ) (b : Block) (t : List ℕ) → Runs z earlier b t → (on : Power) (p : ℕ) →
-    bit-written z b on (effect-on z b t on) p ≡ none → bit (block-table z b t on) p ≡ bit t p
+    (net : Network) (earlier : ℕ) (b : Block) (t : List ℕ) → Runs net earlier b t → (on : Power) (p : ℕ) →
+    bit-written net b on (effect-on net b t on) p ≡ none → bit (block-table net b t on) p ≡ bit t p
 
 -- discrete inputs and input registers never change: they stand after the coils and before the holding registers
 abbrev pub InputsStay : Type 0
 InputsStay =
-    (z : Sizes) (earlier : ℕ) (b : Block) (t : List ℕ) → Runs z earlier b t → (on : Power) (p : ℕ) →
-    16 * z .coils < p → p ≤ 16 * (z .coils + z .discretes + z .inputs) → bit (block-table z b t on) p ≡ bit t p
+    (net : Network) (earlier : ℕ) (b : Block) (t : List ℕ) → Runs net earlier b t → (on : Power) (p : ℕ) →
+    16 * net .sizes .coils < p → p ≤ 16 * (net .sizes .coils + net .sizes .discretes + net .sizes .inputs) → bit (block-table net b t on) p ≡ bit t p
 
 -- the key rule: two tables that agree on what a block reads, with equal inputs, give equal outputs and equal values in every
 -- bit that the block writes
 abbrev pub KeyRule : Type 0
 KeyRule =
-    (z : Sizes) (earlier : ℕ) (b : Block) (t u : List ℕ) → Runs z earlier b t → Runs z earlier b u →
-    view (kind-of (b .kind)) z b t ≡ view (kind-of (b .kind)) z b u → (on : Power) →
-    (block-outputs z b t on ≡ block-outputs z b u on)
-    × ((p : ℕ) (x : Bool) → bit-written z b on (effect-on z b t on) p ≡ some x →
-    (bit (block-table z b t on) p ≡ x) × (bit (block-table z b u on) p ≡ x))
+    (net : Network) (earlier : ℕ) (b : Block) (t u : List ℕ) → Runs net earlier b t → Runs net earlier b u →
+    view (kind-of (b .kind)) net b t ≡ view (kind-of (b .kind)) net b u → (on : Power) →
+    (block-outputs net b t on ≡ block-outputs net b u on)
+    × ((p : ℕ) (x : Bool) → bit-written net b on (effect-on net b t on) p ≡ some x →
+    (bit (block-table net b t on) p ≡ x) × (bit (block-table net b u on) p ≡ x))
 
 -- a compare with power reports none exactly when no position differs above the pointer, taken in range
 abbrev pub NoneMeansNone : Type 0

@@ -7,11 +7,9 @@ use mathlib.Core.Option.{Option, none, some}
 use lib.Dec.{eqb}
 use Rattle.bits.specs.Bit.{bit, matrix}
 use Rattle.matrix.specs.Run.{run, placed}
-use Rattle.network.specs.declared.sizes.Sizes.{Sizes}
-use Rattle.network.specs.declared.block.Node.{Node}
-use Rattle.network.specs.declared.block.Coils.{Coils}
-use Rattle.network.specs.declared.block.Block.{Block}
-use Rattle.blocks.specs.declared.Power.{Power}
+use Rattle.network.specs.declared.{block.Node.Node, block.Coils.Coils, block.Block.Block}
+use Rattle.network.specs.Network.{Network}
+use Rattle.blocks.specs.declared.{Power.Power, Outputs.Outputs}
 use Rattle.blocks.specs.Kind.{Kind, kind-of}
 use Rattle.blocks.specs.Kind.Kind.{AND, OR, XOR, COMP, CMPR, MBIT, SENS, BROT}
 use Rattle.blocks.specs.View.{first-word, view}
@@ -39,34 +37,34 @@ one-word none = none
 one-word (some w) = some (w ∷ [])
 
 -- a coil: the bit of that number of the coil area, 1 for power and 0 for none; number 0 names none
-unfoldable pub coil-put : Sizes → ℕ → Bool → List ℕ → List ℕ
-coil-put z number on t =
+unfoldable pub coil-put : Network → ℕ → Bool → List ℕ → List ℕ
+coil-put net number on t =
     cond (eqb number 0) t
-    (placed t 0 (matrix (z .coils) (λ p. cond (eqb p number) on (bit (run t 0 (z .coils)) p))))
+    (placed t 0 (matrix (net .sizes .coils) (λ p. cond (eqb p number) on (bit (run t 0 (net .sizes .coils)) p))))
 
-abbrev pub coils-put : Sizes → Coils → Power → List ℕ → List ℕ
-coils-put z coils out t = coil-put z (coils .bottom) (out .bottom) (coil-put z (coils .middle) (out .middle) (coil-put z (coils .top) (out .top) t))
+abbrev pub coils-put : Network → Coils → Outputs → List ℕ → List ℕ
+coils-put net coils out t = coil-put net (coils .bottom) (out .bottom) (coil-put net (coils .middle) (out .middle) (coil-put net (coils .top) (out .top) t))
 
 -- what the block is to do, with so much power on its inputs
-abbrev pub effect-on : Sizes → Block → List ℕ → Power → Effect
-effect-on z b t on =
-    effect-of (kind-of (b .kind)) (eqb (pointer-node (kind-of (b .kind)) b .class) 4) (b .n) (view (kind-of (b .kind)) z b t) on
+abbrev pub effect-on : Network → Block → List ℕ → Power → Effect
+effect-on net b t on =
+    effect-of (kind-of (b .kind)) (eqb (pointer-node (kind-of (b .kind)) b .class) 4) (b .n) (view (kind-of (b .kind)) net b t) on
 
 -- the top output equals the top input
-abbrev pub outputs : Power → Effect → Power
+abbrev pub outputs : Power → Effect → Outputs
 outputs on e = record { top = on .top; middle = e .middle; bottom = e .bottom }
 
-abbrev pub written : Sizes → Block → Power → Effect → List ℕ → List ℕ
-written z b on e t =
-    coils-put z (b .coils) (outputs on e)
-    (matrix-put (first-word z (pointer-node (kind-of (b .kind)) b)) (one-word (e .pointer))
-    (matrix-put (first-word z (b .middle)) (e .destination) t))
+abbrev pub written : Network → Block → Power → Effect → List ℕ → List ℕ
+written net b on e t =
+    coils-put net (b .coils) (outputs on e)
+    (matrix-put (first-word net (pointer-node (kind-of (b .kind)) b)) (one-word (e .pointer))
+    (matrix-put (first-word net (b .middle)) (e .destination) t))
 
 -- the outputs of a block, and the table that it leaves
-unfoldable pub block-outputs : Sizes → Block → List ℕ → Power → Power
+unfoldable pub block-outputs : Network → Block → List ℕ → Power → Outputs
 unfolding kind-of view effect-of
-block-outputs z b t on = outputs on (effect-on z b t on)
+block-outputs net b t on = outputs on (effect-on net b t on)
 
-unfoldable pub block-table : Sizes → Block → List ℕ → Power → List ℕ
+unfoldable pub block-table : Network → Block → List ℕ → Power → List ℕ
 unfolding kind-of view effect-of matrix-put coil-put
-block-table z b t on = written z b on (effect-on z b t on) t
+block-table net b t on = written net b on (effect-on net b t on) t

@@ -6,8 +6,7 @@ use mathlib.Core.List.{List}
 use lib.ListN.{length}
 use Rattle.bits.specs.declared.Verdict.{Verdict}
 use Rattle.bits.specs.Bit.{bit, matrix}
-use Rattle.matrix.specs.declared.logic.Operation.{Operation}
-use Rattle.matrix.specs.declared.logic.Operation.the-variants.{And, Or, Xor, Comp}
+use Rattle.matrix.specs.declared.{logic.Operation.Operation, logic.Operation.the-variants.And, logic.Operation.the-variants.Or, logic.Operation.the-variants.Xor, logic.Operation.the-variants.Comp}
 use Rattle.matrix.specs.Run.{run, placed, longest-whole, fault, verdict, unless}
 
 -- the operation on a bit of the source and the destination's bit at its position

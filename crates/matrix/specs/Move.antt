@@ -6,8 +6,7 @@ use mathlib.Core.List.{List}
 use lib.Dec.{eqb}
 use lib.ListN.{length}
 use Rattle.bits.specs.Bit.{bit, matrix}
-use Rattle.matrix.specs.declared.answer.Answer.{Answer}
-use Rattle.matrix.specs.declared.answer.Answer.the-variants.{Bit, Refused}
+use Rattle.matrix.specs.declared.{answer.Answer.Answer, answer.Answer.the-variants.Bit, answer.Answer.the-variants.Refused}
 use Rattle.matrix.specs.Run.{run, placed, longest-whole, fault, verdict, unless}
 
 -- the bit of an n-word matrix that leaves it

@@ -7,8 +7,7 @@ use mathlib.Core.List.{List}
 use mathlib.Core.Option.{Option, none, some}
 use lib.ListN.{length}
 use Rattle.bits.specs.Bit.{bit}
-use Rattle.matrix.specs.declared.search.Difference.{Difference}
-use Rattle.matrix.specs.declared.search.Difference.the-variants.{At, Nothing, Refused}
+use Rattle.matrix.specs.declared.{search.Difference.Difference, search.Difference.the-variants.At, search.Difference.the-variants.Nothing, search.Difference.the-variants.Refused}
 use Rattle.matrix.specs.Run.{run, longest-whole, fault, verdict, unless}
 
 -- two matrices differ at a position

@@ -6,8 +6,7 @@ use lib.Dec.{eqb}
 use lib.ListN.{length}
 use Rattle.bits.specs.declared.Verdict.{Verdict}
 use Rattle.bits.specs.Bit.{bit, matrix}
-use Rattle.matrix.specs.declared.answer.Answer.{Answer}
-use Rattle.matrix.specs.declared.answer.Answer.the-variants.{Bit, Refused}
+use Rattle.matrix.specs.declared.{answer.Answer.Answer, answer.Answer.the-variants.Bit, answer.Answer.the-variants.Refused}
 use Rattle.matrix.specs.Run.{run, placed, fault-at, verdict, unless}
 
 -- the matrix is the n words from s on

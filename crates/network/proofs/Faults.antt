@@ -7,13 +7,14 @@ use native.Mathlib.Nat.{lt-of-not-le}
 use native.Mathlib.Omega.{arith}
 use borrow.Author.Tests.{le-leb, lt-leb, eq-eqb, ne-eqb}
 use lib.Dec.{leb, eqb}
-use lib.ListN.{List·getD-eq-default}
+use lib.ListN.{length, List·getD-eq-default}
+use Rattle.section.specs.Walk.{word}
 use Rattle.network.specs.declared.sizes.Sizes.{Sizes}
 use Rattle.network.specs.declared.block.Node.{Node}
 use Rattle.network.specs.declared.block.Input.{Input}
 use Rattle.network.specs.declared.block.Block.{Block}
 use Rattle.network.specs.Table.{most-constant, reference-fault}
-use Rattle.network.specs.Fault.{counted, up-to, number-fault, input-fault, faults, word-fault}
+use Rattle.network.specs.Fault.{counted, up-to, number-fault, input-fault, faults}
 
 -- ---- the two tests
 pub counted-in : (most n refusal : ℕ) → 1 ≤ n → n ≤ most → counted most n refusal ≡ 0
@@ -80,6 +81,10 @@ pub none-below : (n q : ℕ) → ((i : ℕ) → i < n → q ≡ i → ⊥) → n
 none-below n q h = elim (decLe n q) [ yes l ↦ l | no l ↦ absurd (h q (lt-of-not-le l) refl) ]
 
 -- a record has 15 words
-pub word-fault-past : (z : Sizes) (earlier : ℕ) (b : Block) (q : ℕ) → 15 ≤ q → word-fault z earlier b q ≡ 0
-unfolding word-fault
-word-fault-past z earlier b q l = List·getD-eq-default (faults z earlier b) 0 l
+pub faults-past : (z : Sizes) (earlier : ℕ) (b : Block) (q : ℕ) → 15 ≤ q → word (faults z earlier b) q ≡ 0
+unfolding faults
+faults-past z earlier b q l = List·getD-eq-default (faults z earlier b) 0 l
+
+pub faults-long : (z : Sizes) (earlier : ℕ) (b : Block) → length (faults z earlier b) ≡ 15
+unfolding faults
+faults-long z earlier b = refl

@@ -1,5 +1,5 @@
--- What acceptance gives for each kind: the row of a kind says which classes its nodes may have, and a node of such a class
--- that is placed lies in the table. Assumes nothing.
+-- What acceptance gives for each kind, for whoever works on an accepted network's blocks: the row of a kind says which classes its
+-- nodes may have, and a node of such a class that is placed lies in the table. Assumes nothing.
 use mathlib.Core.Path.{_≡_, refl, sym, ap, _∙_, subst}
 use mathlib.Core.Bool.{true, false, false≢true}
 use mathlib.Core.Logic.{_⊎_, inl, inr, ⊎-elim}
@@ -12,12 +12,54 @@ use Rattle.network.specs.declared.rules.Classes.{Classes}
 use Rattle.network.specs.declared.rules.Rule.{Rule}
 use Rattle.network.specs.declared.block.Node.{Node}
 use Rattle.network.specs.declared.block.Block.{Block}
-use Rattle.network.specs.Table.{area, start-of}
+use Rattle.network.specs.Table.{most-constant, area, total, start-of}
 use Rattle.network.specs.Rules.{any-matrix, written, held, pointers, row, rule, allows}
 use Rattle.network.specs.Fault.{top-words}
 use Rattle.network.specs.Sound.{Placed, GoodNode, GoodBlock}
-use Rattle.network.specs.Kinds.{Lies, TwoMatrices, Compared, Pointed, KindFacts, AcceptedMeans}
 use Rattle.network.proofs.Parts.{area-within}
+
+-- ---- the facts
+
+-- so many words from a node's first word on lie in the table
+abbrev pub Lies : Sizes → Node → ℕ → Type 0
+Lies z node words = start-of z (node .class) (node .number) + words ≤ total z
+
+-- a node whose words are written: coils or holding registers
+abbrev pub Writable : Node → Type 0
+Writable node = (node .class ≡ 0) ⊎ (node .class ≡ 4)
+
+-- AND, OR, XOR, COMP and BROT: a source, and a destination that is written
+pub record TwoMatrices (z : Sizes) (b : Block) : Type 0 where
+  pub some : 1 ≤ b .n
+  pub few : b .n ≤ 100
+  pub source : Lies z (b .top) (b .n)
+  pub destination : Lies z (b .middle) (b .n)
+  pub writable : Writable (b .middle)
+
+-- CMPR: a source, and a pointer in a holding register with its matrix in the n registers after it
+pub record Compared (z : Sizes) (b : Block) : Type 0 where
+  pub some : 1 ≤ b .n
+  pub few : b .n ≤ 100
+  pub source : Lies z (b .top) (b .n)
+  pub held : b .middle .class ≡ 4
+  pub pointer-and-matrix : Lies z (b .middle) (b .n + 1)
+
+-- MBIT and SENS: a pointer that is a constant or one register, and a matrix
+pub record Pointed (z : Sizes) (b : Block) : Type 0 where
+  pub some : 1 ≤ b .n
+  pub few : b .n ≤ 255
+  pub constant : b .top .class ≡ 9 → b .top .number ≤ most-constant
+  pub register : (b .top .class ≡ 9 → ⊥) → Lies z (b .top) 1
+  pub pointer : (b .top .class ≡ 9) ⊎ ((b .top .class ≡ 3) ⊎ (b .top .class ≡ 4))
+  pub matrix : Lies z (b .middle) (b .n)
+
+-- each kind has its facts
+pub record KindFacts (z : Sizes) (b : Block) : Type 0 where
+  pub two : (b .kind ≤ 4) ⊎ (b .kind ≡ 8) → TwoMatrices z b
+  pub compare : b .kind ≡ 5 → Compared z b
+  pub modify : b .kind ≡ 6 → Pointed z b
+  pub modified : b .kind ≡ 6 → Writable (b .middle)
+  pub sense : b .kind ≡ 7 → Pointed z b
 
 -- ---- the classes of a node
 data Class (class : ℕ) : Type 0 where
@@ -200,5 +242,5 @@ module _ (z : Sizes) (earlier : ℕ) (b : Block) (g : GoodBlock z earlier b) whe
     sense = λ e. pointed any-matrix any-area (row-of 7 e);
   }
 
-pub accepted-means : AcceptedMeans
+pub accepted-means : (z : Sizes) (earlier : ℕ) (b : Block) → GoodBlock z earlier b → KindFacts z b
 accepted-means = facts

@@ -4,12 +4,14 @@ pub mod Calls
 pub mod Determined
 pub mod Examples
 pub mod Faults
+pub mod Good
 pub mod Held
 pub mod Kept
 pub mod KindFacts
 pub mod Networks
 pub mod Parts
 pub mod Reading
-pub mod RoundTrips
 pub mod References
-pub mod Walk
+pub mod RoundTrips
+pub mod Values
+pub mod Words

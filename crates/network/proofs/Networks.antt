@@ -1,168 +1,139 @@
--- The laws of a network's words: what each earns is what its section says, and the sections follow one another.
+-- The laws of a network's words: its two sections in turn, what they spell by the index of the words, and what an opening is.
 -- Assumes nothing.
 use mathlib.Core.Path.{_≡_, refl, sym, ap, ap₂, _∙_, subst⁻¹}
-use mathlib.Core.Bool.{Bool, cond}
-use mathlib.Core.List.{List}
-use Prim.Native.Nat.{ℕ, suc, _+_, _-_, _*_, _/_, _%_, _≤_, _<_}
+use mathlib.Core.Bool.{false, cond}
+use mathlib.Core.List.{List, [], _∷_, _++_, append-nil}
+use Prim.Native.Nat.{ℕ, _+_, _*_, _≤_, _<_}
 use native.Mathlib.Numerals.{add-one}
 use native.Mathlib.Omega.{arith}
-use borrow.Author.Tests.{lt-ltb, le-ltb}
-use lib.ListN.{length, List·getD-eq-default}
+use lib.Dec.{leb}
+use lib.ListN.{length, getD, drop, length-append}
 use Rattle.bits.specs.declared.Verdict.{Verdict}
+use Rattle.section.specs.Walk.{word, verdict, done, then, seek, left-over}
+use Rattle.section.specs.Section.{section-earns, earned, meaning, judged-from, whole, records-earn, records-in}
+use Rattle.section.proofs.Walk.{then-first, then-next, seek-done, turn-refused, turn-passed, turn-last}
+use Rattle.section.proofs.Sections.{none-over, some-over}
+use Rattle.section.proofs.Records.{records-count, record-is, words-count}
+use Rattle.network.specs.declared.sizes.Sizes.{Sizes}
 use Rattle.network.specs.declared.checker.Opened.{Opened}
-use Rattle.network.specs.Record.{word, block-at}
-use Rattle.network.specs.Fault.{word-fault}
-use Rattle.network.specs.Check.{verdict, done, then, seek, judged, sizes-in, head-faults, head-fault, block-start, fault-in, network-end, leading, left-over, opened}
-use Rattle.network.proofs.Walk.{seek-cong, seek-split, seek-clean, then-first, then-next}
+use Rattle.network.specs.Record.{record-words, block-in}
+use Rattle.network.specs.Network.{Network, areas-only, block-count, block-of, no-block}
+use Rattle.network.specs.Check.{sizes-in, sizes-faults, areas-section, most-blocks, block-faults, blocks-section, sections, no-network, network-in, network-end, front-checked, checked, opened-with, leading, opened, record-start}
+use Rattle.network.proofs.Faults.{faults-long}
+use Rattle.section.proofs.Words.{word-from, rest-from}
 
--- there are six words before the blocks
-pub head-fault-past : (i w : ℕ) → 6 ≤ i → head-fault i w ≡ 0
-unfolding head-fault
-head-fault-past i w l = List·getD-eq-default (head-faults w) 0 l
+-- what a record's words earn is as long as the record
+pub block-faults-long : (z : Sizes) (earlier : ℕ) (ws : List ℕ) → length (block-faults z earlier ws) ≡ record-words
+unfolding block-faults
+block-faults-long z earlier ws = faults-long z earlier (block-in ws)
 
 module _ (ws : List ℕ) where
-  pub in-head : (i : ℕ) → i < 6 → fault-in ws i ≡ head-fault i (word ws i)
-  unfolding fault-in
-  in-head i l =
-      ap (λ (b : Bool). cond b (head-fault i (word ws i))
-      (word-fault (sizes-in ws) ((i - 6) / 15) (block-at ws (block-start ((i - 6) / 15))) ((i - 6) % 15)))
-      (lt-ltb i 6 l)
+  -- the areas are the first five words
+  abbrev pub after-areas : Network
+  after-areas = areas-only (sizes-in (drop 1 ws))
 
-  pub in-block : (j q : ℕ) → q < 15 → fault-in ws (block-start j + q) ≡ word-fault (sizes-in ws) j (block-at ws (block-start j)) q
-  unfolding fault-in
-  in-block j q l =
-      let i : ℕ = block-start j + q in
-      let which : (i - 6) / 15 ≡ j = omega arith in
-      let place : (i - 6) % 15 ≡ q = omega arith in
-      ap (λ (b : Bool). cond b (head-fault i (word ws i))
-      (word-fault (sizes-in ws) ((i - 6) / 15) (block-at ws (block-start ((i - 6) / 15))) ((i - 6) % 15)))
-      (le-ltb i 6 (omega arith))
-      ∙ ap₂ (λ (x y : ℕ). word-fault (sizes-in ws) x (block-at ws (block-start x)) y) which place
+  earned-is : earned sections no-network ws ≡ section-earns areas-section no-network ws ++ (section-earns blocks-section after-areas (drop 5 ws) ++ [])
+  unfolding earned section-earns areas-section sizes-faults
+  earned-is = refl
 
-  -- the words of a block are judged as its record is
-  pub block-judged : (j : ℕ) → judged (sizes-in ws) j (block-at ws (block-start j)) (block-start j) (length ws)
-      ≡ seek (fault-in ws) (length ws) (block-start j) 15
-  block-judged j =
-      seek-cong _ (fault-in ws) (length ws) 15 (block-start j)
-      (λ i l u.
-      let at : block-start j + (i - block-start j) ≡ i = omega arith in
-      sym (in-block j (i - block-start j) (omega arith))
-      ∙ ap (fault-in ws) at)
+  -- ---- what the words spell
+  pub sizes-is : network-in ws .sizes ≡ sizes-in (drop 1 ws)
+  unfolding network-in meaning areas-section blocks-section
+  sizes-is = refl
 
-  -- the head, then the blocks
-  pub head-then-blocks : seek (fault-in ws) (length ws) 0 (network-end ws)
-      ≡ then (seek (fault-in ws) (length ws) 0 6) (seek (fault-in ws) (length ws) 6 (15 * word ws 5))
-  head-then-blocks = seek-split (fault-in ws) (length ws) 6 (15 * word ws 5) 0
+  count-at : word (drop 5 ws) 0 ≡ word ws 5
+  count-at = sym (word-from ws 5 0)
 
-  pub head-refused : {v : Verdict} → v ≡ seek (fault-in ws) (length ws) 0 6 → (v .number ≡ 0 → ⊥) → v ≡ seek (fault-in ws) (length ws) 0 (network-end ws)
-  head-refused {v} e h =
-      sym (then-first v (seek (fault-in ws) (length ws) 6 (15 * word ws 5)) h)
-      ∙ ap (λ (x : Verdict). then x (seek (fault-in ws) (length ws) 6 (15 * word ws 5))) e
-      ∙ sym head-then-blocks
+  after-count : drop 1 (drop 5 ws) ≡ drop 6 ws
+  after-count = sym (rest-from ws 5 1)
 
-  pub head-passed : {v w : Verdict} → v ≡ seek (fault-in ws) (length ws) 0 6 → v .number ≡ 0 → w ≡ seek (fault-in ws) (length ws) 6 (15 * word ws 5)
-      → w ≡ seek (fault-in ws) (length ws) 0 (network-end ws)
-  head-passed {v} {w} e h f =
-      f
-      ∙ sym (then-next v (seek (fault-in ws) (length ws) 6 (15 * word ws 5)) h)
-      ∙ ap (λ (x : Verdict). then x (seek (fault-in ws) (length ws) 6 (15 * word ws 5))) e
-      ∙ sym head-then-blocks
+  pub blocks-are : network-in ws .blocks ≡ records-in record-words block-in (word ws 5) (drop 6 ws)
+  unfolding network-in meaning areas-section blocks-section section-earns sizes-faults
+  blocks-are = ap₂ (records-in record-words block-in) count-at after-count
+
+  pub count-is : block-count (network-in ws) ≡ word ws 5
+  count-is = ap length blocks-are ∙ records-count record-words block-in (word ws 5) (drop 6 ws)
+
+  pub block-is : (k : ℕ) → k < block-count (network-in ws) → block-of (network-in ws) k ≡ block-in (drop (record-start k) ws)
+  block-is k l =
+      ap (λ (bs : List _). getD bs k no-block) blocks-are
+      ∙ record-is record-words block-in (word ws 5) k (drop 6 ws) no-block (omega (arith, l, count-is))
+      ∙ ap block-in (sym (rest-from ws 6 (record-words * k)))
+
+  -- ---- what its words earn, and how many there are
+  blocks-earn : section-earns blocks-section after-areas (drop 5 ws) ≡ cond (leb (word ws 5) most-blocks) 0 2 ∷ records-earn record-words (block-faults (sizes-in (drop 1 ws))) 0 (word ws 5) (drop 6 ws)
+  unfolding section-earns blocks-section
+  blocks-earn =
+      ap₂ (λ (c : ℕ) (l : List ℕ). cond (leb c most-blocks) 0 2 ∷ records-earn record-words (block-faults (sizes-in (drop 1 ws))) 0 c l) count-at after-count
+
+  areas-long : length (section-earns areas-section no-network ws) ≡ 5
+  unfolding section-earns areas-section sizes-faults
+  areas-long = refl
+
+  pub end-is : network-end ws ≡ 6 + record-words * word ws 5
+  unfolding network-end
+  end-is =
+      let records : List ℕ = records-earn record-words (block-faults (sizes-in (drop 1 ws))) 0 (word ws 5) (drop 6 ws) in
+      let long : length records ≡ record-words * word ws 5 =
+      words-count record-words (block-faults (sizes-in (drop 1 ws))) (block-faults-long (sizes-in (drop 1 ws))) (word ws 5) 0 (drop 6 ws) in
+      ap length earned-is
+      ∙ length-append (section-earns areas-section no-network ws) (section-earns blocks-section after-areas (drop 5 ws) ++ [])
+      ∙ ap₂ _+_ areas-long (ap length (append-nil (section-earns blocks-section after-areas (drop 5 ws)) ∙ blocks-earn))
+      ∙ omega (arith, long)
+
+  -- ---- the areas are judged, then the blocks
+  module _ {v : Verdict} (e : v ≡ seek (section-earns areas-section no-network ws) (length ws) 0) where
+    pub areas-refused : (v .number ≡ 0 → ⊥) → v ≡ front-checked ws
+    unfolding front-checked judged-from
+    areas-refused h =
+        turn-refused (length ws) (section-earns areas-section no-network ws) (section-earns blocks-section after-areas (drop 5 ws) ++ []) 0 e h
+        ∙ ap (λ (l : List ℕ). seek l (length ws) 0) (sym earned-is)
+
+    pub areas-passed : {w : Verdict} → v .number ≡ 0 → w ≡ seek (section-earns blocks-section after-areas (drop 5 ws)) (length ws) 5 → w ≡ front-checked ws
+    unfolding front-checked judged-from
+    areas-passed {w} h f =
+        turn-passed (length ws) (section-earns areas-section no-network ws) (section-earns blocks-section after-areas (drop 5 ws) ++ []) 0
+        e h (omega (arith, areas-long)) (f ∙ turn-last (length ws) (section-earns blocks-section after-areas (drop 5 ws)) 5)
+        ∙ ap (λ (l : List ℕ). seek l (length ws) 0) (sym earned-is)
 
   -- ---- opened: the network at the front, then nothing
-  with-verdict : Verdict → Opened
-  with-verdict v = record { verdict = v; sizes = sizes-in ws; count = word ws 5; next = network-end ws }
+  over : Verdict
+  over = left-over (network-end ws) (length ws) false
 
-  opened-as : (v : Verdict) → then (leading ws .verdict) (left-over ws (network-end ws)) ≡ v → opened ws ≡ with-verdict v
-  unfolding opened with-verdict
-  opened-as v e = ap (λ (x : Verdict). record { verdict = x; sizes = sizes-in ws; count = word ws 5; next = network-end ws }) e
+  checked-is : checked ws ≡ then (front-checked ws) over
+  unfolding checked whole front-checked network-end over
+  checked-is = refl
 
-  leading-as : leading ws ≡ with-verdict (leading ws .verdict)
-  unfolding leading with-verdict
-  leading-as = refl
+  pub front-done : front-checked ws .number ≡ 0 → front-checked ws ≡ done
+  unfolding front-checked judged-from
+  front-done e = seek-done (length ws) (earned sections no-network ws) 0 e
 
-  refused-here : (leading ws .verdict .number ≡ 0 → ⊥) → leading ws ≡ opened ws
-  refused-here h = leading-as ∙ sym (opened-as (leading ws .verdict) (then-first (leading ws .verdict) (left-over ws (network-end ws)) h))
+  refused-here : (front-checked ws .number ≡ 0 → ⊥) → front-checked ws ≡ checked ws
+  refused-here h = sym (checked-is ∙ then-first (front-checked ws) over h)
 
-  pub leading-clean : leading ws .verdict .number ≡ 0 → leading ws .verdict ≡ done
-  unfolding leading
-  leading-clean e = seek-clean (fault-in ws) (length ws) (network-end ws) 0 e
+  whole-here : front-checked ws .number ≡ 0 → length ws ≤ network-end ws → front-checked ws ≡ checked ws
+  unfolding over
+  whole-here e l = front-done e ∙ sym (checked-is ∙ then-next (front-checked ws) over e ∙ none-over (network-end ws) (length ws) l)
 
-  none-over : length ws ≤ network-end ws → left-over ws (network-end ws) ≡ done
-  none-over l = ap (λ (b : Bool). cond b (verdict 11 (suc (network-end ws))) done) (le-ltb (network-end ws) (length ws) l)
-
-  some-over : network-end ws < length ws → left-over ws (network-end ws) ≡ verdict 11 (network-end ws + 1)
-  some-over l =
-      ap (λ (b : Bool). cond b (verdict 11 (suc (network-end ws))) done) (lt-ltb (network-end ws) (length ws) l)
-      ∙ ap (verdict 11) (sym (add-one (network-end ws)))
-
-  whole-here : leading ws .verdict .number ≡ 0 → length ws ≤ network-end ws → leading ws ≡ opened ws
-  whole-here e l =
-      leading-as
-      ∙ ap with-verdict (leading-clean e)
-      ∙ sym (opened-as done (then-next (leading ws .verdict) (left-over ws (network-end ws)) e ∙ none-over l))
-
-  over-here : leading ws .verdict .number ≡ 0 → network-end ws < length ws
-      → _≡_ {A = Opened} (record { verdict = verdict 11 (network-end ws + 1); sizes = sizes-in ws; count = word ws 5; next = network-end ws }) (opened ws)
-  unfolding with-verdict
+  over-here : front-checked ws .number ≡ 0 → network-end ws < length ws → verdict 11 (network-end ws + 1) ≡ checked ws
+  unfolding over
   over-here e l =
-      sym (opened-as (verdict 11 (network-end ws + 1)) (then-next (leading ws .verdict) (left-over ws (network-end ws)) e ∙ some-over l))
+      ap (verdict 11) (add-one (network-end ws))
+      ∙ sym (checked-is ∙ then-next (front-checked ws) over e ∙ some-over (network-end ws) (length ws) false l)
 
   -- the same of anything that is the network at the front
-  pub opened-refused : (o : Opened) → o ≡ leading ws → (o .verdict .number ≡ 0 → ⊥) → o ≡ opened ws
-  opened-refused o e = subst⁻¹ (λ (x : Opened). (x .verdict .number ≡ 0 → ⊥) → x ≡ opened ws) e refused-here
+  module _ (o : Opened) (e : o ≡ leading ws) where
+    pub opened-refused : (o .verdict .number ≡ 0 → ⊥) → o ≡ opened ws
+    opened-refused = subst⁻¹ (λ (x : Opened). (x .verdict .number ≡ 0 → ⊥) → x ≡ opened ws) e (λ h. ap (opened-with ws) (refused-here h))
 
-  pub opened-whole : (o : Opened) → o ≡ leading ws → o .verdict .number ≡ 0 → length ws ≤ o .next → o ≡ opened ws
-  unfolding leading
-  opened-whole o e = subst⁻¹ (λ (x : Opened). x .verdict .number ≡ 0 → length ws ≤ x .next → x ≡ opened ws) e whole-here
+    pub opened-whole : o .verdict .number ≡ 0 → length ws ≤ o .next → o ≡ opened ws
+    opened-whole =
+        subst⁻¹ (λ (x : Opened). x .verdict .number ≡ 0 → length ws ≤ x .next → x ≡ opened ws) e (λ z l. ap (opened-with ws) (whole-here z l))
 
-  pub opened-over : (o : Opened) → o ≡ leading ws → o .verdict .number ≡ 0 → o .next < length ws
-      → _≡_ {A = Opened} (record { verdict = verdict 11 (o .next + 1); sizes = o .sizes; count = o .count; next = o .next }) (opened ws)
-  unfolding leading
-  opened-over o e =
-      subst⁻¹
-      (λ (x : Opened). x .verdict .number ≡ 0 → x .next < length ws
-      → _≡_ {A = Opened} (record { verdict = verdict 11 (x .next + 1); sizes = x .sizes; count = x .count; next = x .next }) (opened ws))
-      e over-here
-
-  -- ---- a loop over the blocks, j of them passed
-  pub record Blocks (count j : ℕ) : Type 0 where
-    pub few : j ≤ count
-    pub same : seek (fault-in ws) (length ws) (block-start j) (15 * (count - j)) ≡ seek (fault-in ws) (length ws) 6 (15 * count)
-
-  pub no-block-yet : (count : ℕ) → Blocks count 0
-  no-block-yet count =
-      let all : 15 * (count - 0) ≡ 15 * count = omega arith in
-      record { few = omega arith; same = ap (seek (fault-in ws) (length ws) 6) all }
-
-  module _ {count j : ℕ} (b : Blocks count j) (l : j < count) where
-    next-block : seek (fault-in ws) (length ws) 6 (15 * count)
-        ≡ then (seek (fault-in ws) (length ws) (block-start j) 15) (seek (fault-in ws) (length ws) (block-start j + 15) (15 * (count - (j + 1))))
-    next-block =
-        let more : 15 * (count - j) ≡ 15 + 15 * (count - (j + 1)) = omega arith in
-        sym (b .same) ∙ ap (seek (fault-in ws) (length ws) (block-start j)) more ∙ seek-split (fault-in ws) (length ws) 15 (15 * (count - (j + 1))) (block-start j)
-
-    pub block-refused : {v : Verdict} → v ≡ seek (fault-in ws) (length ws) (block-start j) 15 → (v .number ≡ 0 → ⊥)
-        → v ≡ seek (fault-in ws) (length ws) 6 (15 * count)
-    block-refused {v} e h =
-        sym (then-first v (seek (fault-in ws) (length ws) (block-start j + 15) (15 * (count - (j + 1)))) h)
-        ∙ ap (λ (x : Verdict). then x (seek (fault-in ws) (length ws) (block-start j + 15) (15 * (count - (j + 1))))) e
-        ∙ sym next-block
-
-    pub block-passed : {v : Verdict} → v ≡ seek (fault-in ws) (length ws) (block-start j) 15 → v .number ≡ 0 → Blocks count (j + 1)
-    block-passed {v} e h =
-        let at : block-start (j + 1) ≡ block-start j + 15 = omega arith in
-        let rest : Verdict = seek (fault-in ws) (length ws) (block-start j + 15) (15 * (count - (j + 1))) in
-        record {
-          few = omega arith;
-          same =
-              ap (λ (x : ℕ). seek (fault-in ws) (length ws) x (15 * (count - (j + 1)))) at
-              ∙ sym (then-next v rest h)
-              ∙ ap (λ (x : Verdict). then x rest) e
-              ∙ sym next-block;
-        }
-
-  pub all-blocks : {count j : ℕ} → Blocks count j → count ≤ j → done ≡ seek (fault-in ws) (length ws) 6 (15 * count)
-  unfolding seek
-  all-blocks {count} {j} b l =
-      let none : 0 ≡ 15 * (count - j) = omega (arith, b .few) in
-      ap (seek (fault-in ws) (length ws) (block-start j)) none ∙ b .same
+    pub opened-over : o .verdict .number ≡ 0 → o .next < length ws
+        → _≡_ {A = Opened} (record { verdict = verdict 11 (o .next + 1); sizes = o .sizes; count = o .count; next = o .next }) (opened ws)
+    opened-over =
+        subst⁻¹
+        (λ (x : Opened). x .verdict .number ≡ 0 → x .next < length ws
+        → _≡_ {A = Opened} (record { verdict = verdict 11 (x .next + 1); sizes = x .sizes; count = x .count; next = x .next }) (opened ws))
+        e (λ z l. ap (opened-with ws) (over-here z l))

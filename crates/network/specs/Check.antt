@@ -1,121 +1,102 @@
--- The checker (document 01, "Numbers returned"): words are checked from the first on, each when it is reached. A network is
--- the areas (count 4, four sizes), then the blocks (count, 15 words for each). Assumes nothing.
-use Prim.Native.Nat.{ℕ, zero, suc, _+_, _-_, _*_, _/_, _%_}
-use mathlib.Core.Bool.{cond, _&&_}
+-- The checker (document 01, "Numbers returned"): words are checked from the first on, each when it is reached. A network is two
+-- sections, the areas and the blocks. Assumes nothing.
+use Prim.Native.Nat.{ℕ, _+_, _-_, _*_}
+use mathlib.Core.Bool.{false, cond, _&&_}
 use mathlib.Core.List.{List, [], _∷_}
-use lib.Dec.{leb, ltb, eqb}
-use lib.ListN.{length, getD}
+use lib.Dec.{leb, eqb}
+use lib.ListN.{length, drop}
 use Rattle.bits.specs.declared.Verdict.{Verdict}
-use Rattle.network.specs.declared.sizes.Sizes.{Sizes}
-use Rattle.network.specs.declared.block.Block.{Block}
-use Rattle.network.specs.declared.checker.Opened.{Opened}
-use Rattle.network.specs.declared.reader.Read.{Read}
-use Rattle.network.specs.declared.reader.Read.the-variants.{Record, Refused}
+use Rattle.section.specs.Walk.{word, verdict, done, then, seek}
+use Rattle.section.specs.Section.{Section, meaning, end, front, whole, records-earn, records-in}
+use Rattle.network.specs.declared.{sizes.Sizes.Sizes, block.Block.Block, checker.Opened.Opened, reader.Read.Read, reader.Read.the-variants.Record, reader.Read.the-variants.Refused}
 use Rattle.network.specs.Table.{most-coils, most-discretes, most-inputs, most-holding, allowed}
-use Rattle.network.specs.Record.{word, block-at, spelled}
-use Rattle.network.specs.Fault.{up-to, word-fault}
+use Rattle.network.specs.Record.{record-words, block-in, spelled}
+use Rattle.network.specs.Network.{Network, areas-only, block-count}
+use Rattle.network.specs.Fault.{up-to, faults}
 
-abbrev pub verdict : ℕ → ℕ → Verdict
-verdict number place = record { number = number; place = place }
-
-abbrev pub done : Verdict
-done = verdict 0 0
-
--- one verdict after another: the first that refuses
-abbrev pub then : Verdict → Verdict → Verdict
-then v w = cond (eqb (v .number) 0) w v
-
--- the n words from index i on, of so many, where f gives the number that each earns: 1 at the first that is missing, f's
--- number at the first that earns one
-unfoldable pub seek : (ℕ → ℕ) → ℕ → ℕ → ℕ → Verdict
-seek f size i zero = done
-seek f size i (suc n) = cond (ltb i size) (cond (eqb (f i) 0) (seek f size (suc i) n) (verdict (f i) (suc i))) (verdict 1 (suc i))
-
--- the 15 words of a record, which stand from index `at` on among so many words
-abbrev pub judged : Sizes → ℕ → Block → ℕ → ℕ → Verdict
-judged z earlier b at size = seek (λ i. word-fault z earlier b (i - at)) size at 15
-
--- ---- a network
-
+-- ---- the areas: count 4, then the four sizes in words, each up to its limit (3)
 abbrev pub sizes-in : List ℕ → Sizes
-sizes-in ws = record { coils = word ws 1; discretes = word ws 2; inputs = word ws 3; holding = word ws 4 }
+sizes-in ws = record { coils = word ws 0; discretes = word ws 1; inputs = word ws 2; holding = word ws 3 }
 
--- the most blocks of a network
+unfoldable pub sizes-faults : Sizes → List ℕ
+sizes-faults z =
+    up-to most-coils (z .coils) 3 ∷ up-to most-discretes (z .discretes) 3 ∷ up-to most-inputs (z .inputs) 3 ∷ up-to most-holding (z .holding) 3 ∷ []
+
+unfoldable pub areas-section : Section Network
+areas-section = record {
+  allows = λ net count. eqb count 4;
+  earns = λ net count ws. sizes-faults (sizes-in ws);
+  spells = λ net count ws. record { sizes = sizes-in ws; blocks = net .blocks };
+}
+
+-- ---- the blocks: count 0 to 128, then 15 words for each block, which earn by the sizes and by how many blocks are earlier
 abbrev pub most-blocks : ℕ
 most-blocks = 128
 
--- what the six words before the blocks earn: a count that is not 4 (2), a size over its limit (3), a count over 128 (2)
-unfoldable pub head-faults : ℕ → List ℕ
-head-faults w =
-    cond (eqb w 4) 0 2
-    ∷ up-to most-coils w 3 ∷ up-to most-discretes w 3 ∷ up-to most-inputs w 3 ∷ up-to most-holding w 3
-    ∷ up-to most-blocks w 2
-    ∷ []
+unfoldable pub block-faults : Sizes → ℕ → List ℕ → List ℕ
+block-faults z earlier ws = faults z earlier (block-in ws)
 
-unfoldable pub head-fault : ℕ → ℕ → ℕ
-unfolding head-faults
-head-fault i w = getD (head-faults w) i 0
-
--- where the words of the block after the first j start
-abbrev pub block-start : ℕ → ℕ
-block-start j = 6 + 15 * j
-
--- what the word at index i earns when it is reached
-unfoldable pub fault-in : List ℕ → ℕ → ℕ
-unfolding head-fault
-fault-in ws i =
-    cond (ltb i 6) (head-fault i (word ws i))
-    (word-fault (sizes-in ws) ((i - 6) / 15) (block-at ws (block-start ((i - 6) / 15))) ((i - 6) % 15))
-
--- where the words end that the areas and the blocks take
-abbrev pub network-end : List ℕ → ℕ
-network-end ws = block-start (word ws 5)
-
--- the network at the front of the words, whatever follows it
-unfoldable pub leading : List ℕ → Opened
-unfolding seek fault-in
-leading ws = record {
-  verdict = seek (fault-in ws) (length ws) 0 (network-end ws);
-  sizes = sizes-in ws;
-  count = word ws 5;
-  next = network-end ws;
+unfoldable pub blocks-section : Section Network
+blocks-section = record {
+  allows = λ net count. leb count most-blocks;
+  earns = λ net count ws. records-earn record-words (block-faults (net .sizes)) 0 count ws;
+  spells = λ net count ws. record { sizes = net .sizes; blocks = records-in record-words block-in count ws };
 }
 
--- 11: words left over
-abbrev pub left-over : List ℕ → ℕ → Verdict
-left-over ws next = cond (ltb next (length ws)) (verdict 11 (suc next)) done
+-- ---- a network
+abbrev pub sections : List (Section Network)
+sections = areas-section ∷ blocks-section ∷ []
 
--- the network that is all of the words
-unfoldable pub opened : List ℕ → Opened
-unfolding leading
-opened ws = record {
-  verdict = then (leading ws .verdict) (left-over ws (network-end ws));
-  sizes = sizes-in ws;
-  count = word ws 5;
-  next = network-end ws;
-}
+abbrev pub no-network : Network
+no-network = areas-only (sizes-in [])
 
-abbrev pub checked : List ℕ → Verdict
-checked ws = opened ws .verdict
+-- the network that the words spell, whatever they earn, and where its words end
+unfoldable pub network-in : List ℕ → Network
+network-in ws = meaning sections no-network ws
 
--- ---- the reader: the opening's refusal, or 12 when k isn't 1 to the count, or the record
+unfoldable pub network-end : List ℕ → ℕ
+network-end ws = end sections no-network ws
+
+-- the verdict on the network at the front of the words, whatever follows it, and on one that is all of the words
+unfoldable pub front-checked : List ℕ → Verdict
+front-checked ws = front sections no-network ws
+
+unfoldable pub checked : List ℕ → Verdict
+checked ws = whole sections no-network ws false
+
+-- a verdict with what the words spell
+abbrev pub opened-with : List ℕ → Verdict → Opened
+opened-with ws v = record { verdict = v; sizes = network-in ws .sizes; count = block-count (network-in ws); next = network-end ws }
+
+abbrev pub leading : List ℕ → Opened
+leading ws = opened-with ws (front-checked ws)
+
+abbrev pub opened : List ℕ → Opened
+opened ws = opened-with ws (checked ws)
+
+-- ---- the reader: the opening's refusal, or 12 when k isn't 1 to the count, or the record whose words stand after the areas, the
+-- count and the earlier blocks
+abbrev pub record-start : ℕ → ℕ
+record-start earlier = 6 + record-words * earlier
+
 unfoldable pub read-at : List ℕ → Opened → ℕ → Read
 read-at ws o k =
     cond (eqb (o .verdict .number) 0)
-    (cond (leb 1 k && leb k (o .count)) (Record (block-at ws (block-start (k - 1)))) (Refused (verdict 12 0)))
+    (cond (leb 1 k && leb k (o .count)) (Record (block-in (drop (record-start (k - 1)) ws))) (Refused (verdict 12 0)))
     (Refused (o .verdict))
 
 abbrev pub read : List ℕ → ℕ → Read
 read ws k = read-at ws (opened ws) k
 
 -- ---- the writer: the sizes (3, place 0), then k against 1 to 128 (12), then the 15 words, then the buffer (12)
+abbrev pub judged : Sizes → ℕ → Block → ℕ → ℕ → Verdict
+judged z earlier b at size = seek (faults z earlier b) size at
+
 unfoldable pub write-verdict : Sizes → ℕ → Block → List ℕ → Verdict
-unfolding seek
 write-verdict z k b buffer =
     then (cond (allowed z) done (verdict 3 0))
     (then (cond (leb 1 k && leb k most-blocks) done (verdict 12 0))
-    (then (judged z (k - 1) b 0 15) (cond (eqb (length buffer) 15) done (verdict 12 0))))
+    (then (judged z (k - 1) b 0 record-words) (cond (eqb (length buffer) record-words) done (verdict 12 0))))
 
 unfoldable pub write-buffer : Sizes → ℕ → Block → List ℕ → List ℕ
-unfolding write-verdict spelled
 write-buffer z k b buffer = cond (eqb (write-verdict z k b buffer .number) 0) (spelled b) buffer

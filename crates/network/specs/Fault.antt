@@ -4,12 +4,7 @@ use Prim.Native.Nat.{ℕ, _+_, _*_}
 use mathlib.Core.Bool.{Bool, cond, _&&_}
 use mathlib.Core.List.{List, [], _∷_}
 use lib.Dec.{leb, eqb}
-use lib.ListN.{getD}
-use Rattle.network.specs.declared.sizes.Sizes.{Sizes}
-use Rattle.network.specs.declared.rules.Classes.{Classes}
-use Rattle.network.specs.declared.block.Node.{Node}
-use Rattle.network.specs.declared.block.Input.{Input}
-use Rattle.network.specs.declared.block.Block.{Block}
+use Rattle.network.specs.declared.{sizes.Sizes.Sizes, rules.Classes.Classes, block.Node.Node, block.Input.Input, block.Block.Block}
 use Rattle.network.specs.Table.{most-constant, reference-fault}
 use Rattle.network.specs.Rules.{rule, allows}
 
@@ -57,8 +52,3 @@ faults z earlier b =
     ∷ up-to 8 (b .inputs .bottom .code) 9 ∷ input-fault z earlier (b .inputs .bottom)
     ∷ up-to (16 * z .coils) (b .coils .top) 10 ∷ up-to (16 * z .coils) (b .coils .middle) 10 ∷ up-to (16 * z .coils) (b .coils .bottom) 10
     ∷ []
-
--- what word q of them earns, counted from 0
-unfoldable pub word-fault : Sizes → ℕ → Block → ℕ → ℕ
-unfolding faults
-word-fault z earlier b q = getD (faults z earlier b) q 0

@@ -2,9 +2,8 @@
 pub mod Table
 pub mod Rules
 pub mod Record
+pub mod Network
 pub mod Fault
 pub mod Check
 pub mod Reader
 pub mod Sound
-pub mod Kinds
-pub mod RoundTrip

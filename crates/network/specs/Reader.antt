@@ -3,8 +3,7 @@ use Prim.Native.Nat.{ℕ}
 use mathlib.Core.Path.{_≡_}
 use mathlib.Core.List.{List}
 use denote.Ref.{RefT, now}
-use Rattle.network.specs.declared.reader.Reader.{Reader}
-use Rattle.network.specs.declared.reader.Read.the-variants.{Refused}
+use Rattle.network.specs.declared.{reader.Reader.Reader, reader.Read.the-variants.Refused}
 use Rattle.network.specs.Check.{opened, checked, read-at, read}
 
 -- a reader opened on lent words: it holds the caller's own words, and what opening them finds

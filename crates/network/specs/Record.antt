@@ -1,42 +1,39 @@
 -- A block's record and its 15 words (document 01, "A network in words"): kind; length n; top node (class, number); middle
--- node (class, number); top, middle and bottom input (code, number each); three coil numbers. A missing word reads as 0.
--- Assumes nothing.
-use Prim.Native.Nat.{ℕ, _+_}
+-- node (class, number); top, middle and bottom input (code, number each); three coil numbers. Assumes nothing.
+use Prim.Native.Nat.{ℕ}
 use mathlib.Core.List.{List, [], _∷_}
-use lib.ListN.{getD}
-use Rattle.network.specs.declared.block.Node.{Node}
-use Rattle.network.specs.declared.block.Input.{Input}
-use Rattle.network.specs.declared.block.Inputs.{Inputs}
-use Rattle.network.specs.declared.block.Coils.{Coils}
-use Rattle.network.specs.declared.block.Block.{Block}
+use lib.ListN.{drop}
+use Rattle.section.specs.Walk.{word}
+use Rattle.network.specs.declared.{block.Node.Node, block.Input.Input, block.Inputs.Inputs, block.Coils.Coils, block.Block.Block}
 
-abbrev pub word : List ℕ → ℕ → ℕ
-word ws i = getD ws i 0
+-- how many words a record has
+abbrev pub record-words : ℕ
+record-words = 15
 
-abbrev pub node-at : List ℕ → ℕ → Node
-node-at ws at = record { class = word ws at; number = word ws (at + 1) }
+-- what stands at the front of the words
+abbrev pub node-in : List ℕ → Node
+node-in ws = record { class = word ws 0; number = word ws 1 }
 
-abbrev pub input-at : List ℕ → ℕ → Input
-input-at ws at = record { code = word ws at; number = word ws (at + 1) }
+abbrev pub input-in : List ℕ → Input
+input-in ws = record { code = word ws 0; number = word ws 1 }
 
-abbrev pub inputs-at : List ℕ → ℕ → Inputs
-inputs-at ws at = record { top = input-at ws at; middle = input-at ws (at + 2); bottom = input-at ws (at + 4) }
+abbrev pub inputs-in : List ℕ → Inputs
+inputs-in ws = record { top = input-in ws; middle = input-in (drop 2 ws); bottom = input-in (drop 4 ws) }
 
-abbrev pub coils-at : List ℕ → ℕ → Coils
-coils-at ws at = record { top = word ws at; middle = word ws (at + 1); bottom = word ws (at + 2) }
+abbrev pub coils-in : List ℕ → Coils
+coils-in ws = record { top = word ws 0; middle = word ws 1; bottom = word ws 2 }
 
--- the record whose words stand from index `at` on
-unfoldable pub block-at : List ℕ → ℕ → Block
-block-at ws at = record {
-  kind = word ws at;
-  n = word ws (at + 1);
-  top = node-at ws (at + 2);
-  middle = node-at ws (at + 4);
-  inputs = inputs-at ws (at + 6);
-  coils = coils-at ws (at + 12);
+unfoldable pub block-in : List ℕ → Block
+block-in ws = record {
+  kind = word ws 0;
+  n = word ws 1;
+  top = node-in (drop 2 ws);
+  middle = node-in (drop 4 ws);
+  inputs = inputs-in (drop 6 ws);
+  coils = coils-in (drop 12 ws);
 }
 
--- its words
+-- a record's words
 unfoldable pub spelled : Block → List ℕ
 spelled b =
     b .kind ∷ b .n

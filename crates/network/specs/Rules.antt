@@ -4,8 +4,7 @@ use mathlib.Core.Bool.{Bool, true, false, cond, _&&_}
 use mathlib.Core.List.{List, [], _∷_}
 use lib.Dec.{leb, eqb}
 use lib.ListN.{getD}
-use Rattle.network.specs.declared.rules.Classes.{Classes}
-use Rattle.network.specs.declared.rules.Rule.{Rule}
+use Rattle.network.specs.declared.{rules.Classes.Classes, rules.Rule.Rule}
 
 -- the classes that a node may have
 abbrev pub any-matrix : Classes

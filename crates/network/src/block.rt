@@ -1,7 +1,9 @@
 // A block's record, and its 15 words.
+use section::word;
 ghost use mathlib.Core.Path.{_≡_};
 ghost use Prim.Native.Nat.{_<_};
-ghost use Rattle.network.specs.Record.{word, node-at, input-at, inputs-at, coils-at, block-at};
+ghost use lib.ListN.{drop};
+ghost use Rattle.network.specs.Record.{node-in, input-in, inputs-in, coils-in, block-in};
 
 // A reference: its class (0, 1, 3 or 4, or 9 for a constant) and its number.
 pub struct Node {
@@ -38,19 +40,10 @@ pub struct Block {
     pub coils: Coils,
 }
 
-// The word at an index, or 0 where there is none.
-pub(crate) fn word(words: &[u16], i: usize) -> u16
-    ensures { λ r. ⌜ r ≡ word (now (words .entry)) i ⌝ }
-{
-    if i < words.len() {
-        return words[i];
-    }
-    0
-}
-
+// What stands in the words from an index on: a node, an input, three inputs, three coils.
 fn node_at(words: &[u16], at: usize) -> Node
     requires { ⌜ at < 1000000 ⌝ }
-    ensures { λ r. ⌜ r ≡ node-at (now (words .entry)) at ⌝ }
+    ensures { λ r. ⌜ r ≡ node-in (drop at (now (words .entry))) ⌝ }
 {
     Node {
         class: word(words, at),
@@ -60,7 +53,7 @@ fn node_at(words: &[u16], at: usize) -> Node
 
 fn input_at(words: &[u16], at: usize) -> Input
     requires { ⌜ at < 1000000 ⌝ }
-    ensures { λ r. ⌜ r ≡ input-at (now (words .entry)) at ⌝ }
+    ensures { λ r. ⌜ r ≡ input-in (drop at (now (words .entry))) ⌝ }
 {
     Input {
         code: word(words, at),
@@ -70,7 +63,7 @@ fn input_at(words: &[u16], at: usize) -> Input
 
 fn inputs_at(words: &[u16], at: usize) -> Inputs
     requires { ⌜ at < 999000 ⌝ }
-    ensures { λ r. ⌜ r ≡ inputs-at (now (words .entry)) at ⌝ }
+    ensures { λ r. ⌜ r ≡ inputs-in (drop at (now (words .entry))) ⌝ }
 {
     Inputs {
         top: input_at(words, at),
@@ -81,7 +74,7 @@ fn inputs_at(words: &[u16], at: usize) -> Inputs
 
 fn coils_at(words: &[u16], at: usize) -> Coils
     requires { ⌜ at < 1000000 ⌝ }
-    ensures { λ r. ⌜ r ≡ coils-at (now (words .entry)) at ⌝ }
+    ensures { λ r. ⌜ r ≡ coils-in (drop at (now (words .entry))) ⌝ }
 {
     Coils {
         top: word(words, at),
@@ -93,7 +86,7 @@ fn coils_at(words: &[u16], at: usize) -> Coils
 // The record whose words stand from an index on.
 pub(crate) fn block_at(words: &[u16], at: usize) -> Block
     requires { ⌜ at < 990000 ⌝ }
-    ensures { λ r. ⌜ r ≡ block-at (now (words .entry)) at ⌝ }
+    ensures { λ r. ⌜ r ≡ block-in (drop at (now (words .entry))) ⌝ }
 {
     Block {
         kind: word(words, at),

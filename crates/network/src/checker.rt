@@ -1,6 +1,5 @@
 // The checker: the areas, then the blocks, each word when it is reached.
 use crate::block::block_at;
-use crate::block::word;
 use crate::fault::judged;
 use crate::fault::up_to;
 use crate::sizes::MOST_COILS;
@@ -9,10 +8,15 @@ use crate::sizes::MOST_HOLDING;
 use crate::sizes::MOST_INPUTS;
 use crate::sizes::Sizes;
 use bits::Verdict;
+use section::word;
 ghost use mathlib.Core.Path.{_≡_};
-ghost use Prim.Native.Nat.{_*_, _≤_, _<_};
-ghost use lib.ListN.{length};
-ghost use Rattle.network.specs.Check.{head-fault, sizes-in, fault-in, seek, leading, opened, checked};
+ghost use Prim.Native.Nat.{_≤_};
+ghost use lib.ListN.{length, drop};
+ghost use Rattle.section.specs.Walk.{word, seek};
+ghost use Rattle.section.specs.Section.{section-earns, section-spells, section-rest, records-earn};
+ghost use Rattle.network.specs.Record.{record-words};
+ghost use Rattle.network.specs.Network.{areas-only};
+ghost use Rattle.network.specs.Check.{sizes-in, sizes-faults, areas-section, block-faults, blocks-section, no-network, leading, opened, checked};
 
 // The verdict on a network with what its words spell: the sizes, the count of blocks, and the index after the last block.
 pub struct Opened {
@@ -25,28 +29,9 @@ pub struct Opened {
 // The most blocks of a network.
 pub(crate) const MOST_BLOCKS: usize = 128;
 
-// The refusal that word i of the six before the blocks earns, i counted from 0, or 0.
-fn head_fault(i: usize, w: u16) -> u16
-    ensures { λ r. ⌜ r ≡ head-fault i w ⌝ }
-{
-    match i {
-        0 => {
-            if w == 4 {
-                return 0;
-            }
-            2
-        }
-        1 => up_to(MOST_COILS, w as usize, 3),
-        2 => up_to(MOST_DISCRETES, w as usize, 3),
-        3 => up_to(MOST_INPUTS, w as usize, 3),
-        4 => up_to(MOST_HOLDING, w as usize, 3),
-        5 => up_to(MOST_BLOCKS, w as usize, 2),
-        _ => 0,
-    }
-}
-
+// The four sizes, which stand after their count.
 fn sizes_in(words: &[u16]) -> Sizes
-    ensures { λ r. ⌜ r ≡ sizes-in (now (words .entry)) ⌝ }
+    ensures { λ r. ⌜ r ≡ sizes-in (drop 1 (now (words .entry))) ⌝ }
 {
     Sizes {
         coils: word(words, 1),
@@ -56,21 +41,35 @@ fn sizes_in(words: &[u16]) -> Sizes
     }
 }
 
-// The first refusal among the six words before the blocks.
-fn head(words: &[u16]) -> Verdict
-    ensures { λ r. ⌜ r ≡ seek (fault-in (now (words .entry))) (length (now (words .entry))) 0 6 ⌝ }
+// The refusal that size i earns, i counted from 0, or 0.
+fn size_fault(sizes: Sizes, i: usize) -> u16
+    ensures { λ r. ⌜ r ≡ word (sizes-faults sizes) i ⌝ }
 {
-    let mut i = 0;
-    while i < 6 {
+    match i {
+        0 => up_to(MOST_COILS, sizes.coils as usize, 3),
+        1 => up_to(MOST_DISCRETES, sizes.discretes as usize, 3),
+        2 => up_to(MOST_INPUTS, sizes.inputs as usize, 3),
+        3 => up_to(MOST_HOLDING, sizes.holding as usize, 3),
+        _ => 0,
+    }
+}
+
+// The first refusal among the sizes, which are words 1 to 4 of so many.
+fn sizes_judged(sizes: Sizes, size: usize) -> Verdict
+    ensures { λ r. ⌜ r ≡ seek (sizes-faults sizes) size 1 ⌝ }
+{
+    let mut q = 0;
+    while q < 4 {
+        let i = 1 + q;
         let place = i + 1;
-        if words.len() <= i {
+        if size <= i {
             return Verdict { number: 1, place };
         }
-        let number = head_fault(i, words[i]);
+        let number = size_fault(sizes, q);
         if number != 0 {
             return Verdict { number, place };
         }
-        i += 1;
+        q += 1;
     }
     Verdict {
         number: 0,
@@ -78,10 +77,23 @@ fn head(words: &[u16]) -> Verdict
     }
 }
 
+// The first refusal of the areas: the count, then the sizes.
+fn areas(words: &[u16], sizes: Sizes) -> Verdict
+    requires { ⌜ sizes ≡ sizes-in (drop 1 (now words)) ⌝ }
+    ensures { λ r. ⌜ r ≡ seek (section-earns areas-section no-network (now (words .entry))) (length (now (words .entry))) 0 ⌝ }
+{
+    let verdict = section::count(word(words, 0) == 4, 0, words.len());
+    if verdict.number != 0 {
+        return verdict;
+    }
+    sizes_judged(sizes, words.len())
+}
+
 // The first refusal among the words of so many blocks.
-fn blocks(words: &[u16], sizes: Sizes, count: usize) -> Verdict
-    requires { ⌜ (count ≤ 65535) × (sizes ≡ sizes-in (now words)) ⌝ }
-    ensures { λ r. ⌜ r ≡ seek (fault-in (now (words .entry))) (length (now (words .entry))) 6 (15 * count) ⌝ }
+fn records(words: &[u16], sizes: Sizes, count: usize) -> Verdict
+    requires { ⌜ count ≤ 65535 ⌝ }
+    ensures { λ r. ⌜
+        r ≡ seek (records-earn record-words (block-faults sizes) 0 count (drop 6 (now (words .entry)))) (length (now (words .entry))) 6 ⌝ }
 {
     let mut j = 0;
     while j < count {
@@ -99,6 +111,19 @@ fn blocks(words: &[u16], sizes: Sizes, count: usize) -> Verdict
     }
 }
 
+// The first refusal of the blocks, which stand after the areas: the count, then the records.
+fn blocks(words: &[u16], sizes: Sizes, count: u16) -> Verdict
+    requires { ⌜ count ≡ word (now words) 5 ⌝ }
+    ensures { λ r. ⌜ r ≡ seek (section-earns blocks-section (areas-only sizes) (drop 5 (now (words .entry)))) (length (now (words .entry))) 5 ⌝ }
+{
+    let count = count as usize;
+    let verdict = section::count(count <= MOST_BLOCKS, 5, words.len());
+    if verdict.number != 0 {
+        return verdict;
+    }
+    records(words, sizes, count)
+}
+
 // The network at the front of the words, whatever follows it.
 pub fn leading(words: &[u16]) -> Opened
     ensures { λ r. ⌜ r ≡ leading (now (words .entry)) ⌝ }
@@ -106,7 +131,7 @@ pub fn leading(words: &[u16]) -> Opened
     let sizes = sizes_in(words);
     let count = word(words, 5);
     let next = 6 + 15 * count as usize;
-    let verdict = head(words);
+    let verdict = areas(words, sizes);
     if verdict.number != 0 {
         return Opened {
             verdict,
@@ -115,7 +140,7 @@ pub fn leading(words: &[u16]) -> Opened
             next,
         };
     }
-    let verdict = blocks(words, sizes, count as usize);
+    let verdict = blocks(words, sizes, count);
     Opened {
         verdict,
         sizes,

@@ -11,7 +11,8 @@ use crate::sizes::reference_fault;
 use bits::Verdict;
 ghost use mathlib.Core.Path.{_≡_};
 ghost use Prim.Native.Nat.{_+_, _<_};
-ghost use Rattle.network.specs.Fault.{counted, up-to, class-fault, number-fault, input-fault, top-words, word-fault};
+ghost use Rattle.section.specs.Walk.{word};
+ghost use Rattle.network.specs.Fault.{counted, up-to, class-fault, number-fault, input-fault, top-words, faults};
 ghost use Rattle.network.specs.Rules.{rule};
 ghost use Rattle.network.specs.Check.{judged};
 
@@ -93,7 +94,7 @@ fn top_words(pointer: bool, n: u16) -> u16
 // it is found once for the 15 words.
 fn word_fault(row: Rule, sizes: Sizes, earlier: usize, block: Block, q: usize) -> u16
     requires { ⌜ row ≡ rule (block .kind) ⌝ }
-    ensures { λ r. ⌜ r ≡ word-fault sizes earlier block q ⌝ }
+    ensures { λ r. ⌜ r ≡ word (faults sizes earlier block) q ⌝ }
 {
     let inputs = block.inputs;
     let coils = block.coils;

@@ -1,12 +1,12 @@
 -- A block whose destination, pointer and coils lie outside a compare block's words leaves these as they were. Assumes nothing.
-use mathlib.Core.Path.{_≡_, refl, sym, ap, ap₂, _∙_, subst}
+use mathlib.Core.Path.{_≡_, refl, sym, ap, ap₂, _∙_, subst, subst₂}
 use mathlib.Core.Bool.{Bool, true, false, not, cond, _&&_, _||_, false≢true}
 use mathlib.Core.List.{List, [], _∷_}
 use mathlib.Core.Logic.{_⊎_, inl, inr, ⊎-elim}
 use mathlib.Core.Option.{Option, none, some}
 use Prim.Native.Nat.{ℕ, zero, suc, _+_, _-_, _*_, _/_, _≤_, _<_}
 use native.Mathlib.Omega.{arith}
-use borrow.Author.Tests.{leb-true, eqb-true, eqb-false}
+use borrow.Author.Tests.{leb-true, eqb-true, eqb-false, eq-eqb}
 use lib.Dec.{eqb, leb, ltb}
 use lib.ListN.{length, getD}
 use Rattle.bits.specs.Bit.{bit, matrix}
@@ -15,12 +15,13 @@ use Rattle.matrix.specs.Run.{run, placed}
 use Rattle.matrix.specs.Search.{first-differing}
 use Rattle.matrix.specs.Pointer.{in-range}
 use Rattle.matrix.proofs.Runs.{run-at}
-use Rattle.network.specs.declared.sizes.Sizes.{Sizes}
 use Rattle.network.specs.declared.block.Coils.{Coils}
 use Rattle.network.specs.declared.block.Block.{Block}
 use Rattle.network.specs.Table.{total}
-use Rattle.network.specs.Check.{sizes-in}
+use Rattle.network.specs.Network.{Network, block-of}
+use Rattle.network.proofs.KindFacts.{accepted-means}
 use Rattle.blocks.specs.declared.Power.{Power}
+use Rattle.blocks.specs.declared.Outputs.{Outputs}
 use Rattle.blocks.specs.Kind.{Kind, kind-of}
 use Rattle.blocks.specs.Kind.Kind.{AND, OR, XOR, COMP, CMPR, MBIT, SENS, BROT}
 use Rattle.blocks.specs.View.{View, first-word, view}
@@ -29,7 +30,8 @@ use Rattle.blocks.specs.Work.{pointer-node, matrix-put, one-word, coil-put, coi
 use Rattle.blocks.specs.Truths.{Runs, or-stays}
 use Rattle.blocks.proofs.Puts.{same-bit, word-below, word-above, coil-word, coil-bits, coil-length, put-length}
 use Rattle.blocks.proofs.Written.{destination-room, pointer-room}
-use Rattle.scan.specs.Demand3.{block-of, source-in, matrix-in, pointer-word, pointer-in, SameBits, apart, outside, coil-outside, coils-outside, writes-matrix, writes-pointer, block-outside}
+use Rattle.scan.specs.Scans.{has-pointer}
+use Rattle.scan.specs.Demand3.{source-in, matrix-in, pointer-word, pointer-in, SameBits, apart, outside, coil-outside, coils-outside, writes-matrix, writes-pointer, block-outside}
 
 -- ---- what an effect writes: a destination of n words and a pointer, each only where its kind does
 record Within (matrix-too pointer-too : Bool) (n : ℕ) (e : Effect) : Type 0 where
@@ -82,8 +84,29 @@ unfolding found
 found-within n v none = made false false no-destination (any-pointer (some (16 * n)))
 found-within n v (some p) = made true (bit (v .source) p) no-destination (any-pointer (some p))
 
+-- what each kind writes
+abbrev matrix-by-kind : Kind → Bool
+matrix-by-kind AND = true
+matrix-by-kind OR = true
+matrix-by-kind XOR = true
+matrix-by-kind COMP = true
+matrix-by-kind CMPR = false
+matrix-by-kind MBIT = true
+matrix-by-kind SENS = false
+matrix-by-kind BROT = true
+
+abbrev pointer-by-kind : Kind → Block → Bool
+pointer-by-kind AND b = false
+pointer-by-kind OR b = false
+pointer-by-kind XOR b = false
+pointer-by-kind COMP b = false
+pointer-by-kind CMPR b = true
+pointer-by-kind MBIT b = eqb (b .top .class) 4
+pointer-by-kind SENS b = eqb (b .top .class) 4
+pointer-by-kind BROT b = false
+
 kind-within : (kind : Kind) (b : Block) (v : View) (on : Power)
-    → Within (writes-matrix kind) (writes-pointer kind b) (b .n) (effect-of kind (eqb (pointer-node kind b .class) 4) (b .n) v on)
+    → Within (matrix-by-kind kind) (pointer-by-kind kind b) (b .n) (effect-of kind (eqb (pointer-node kind b .class) 4) (b .n) v on)
 unfolding effect-of logic compare rotate modify sense found
 kind-within AND b v on = either (on .top) (made false false (whole (b .n) _) no-pointer) (made false false no-destination no-pointer)
 kind-within OR b v on = either (on .top) (made false false (whole (b .n) _) no-pointer) (made false false no-destination no-pointer)
@@ -110,6 +133,34 @@ kind-within SENS b v on =
     reset-pointer : Pointed held (left-at-one held (b .n) v on)
     reset-pointer = held-pointer held (on .bottom) _ none no-pointer
 kind-within BROT b v on = either (on .top) (made _ false (whole (b .n) _) no-pointer) (made false false no-destination no-pointer)
+
+-- the same by the number of the kind
+matrix-number : (k : ℕ) → 1 ≤ k → k ≤ 8 → matrix-by-kind (kind-of k) ≡ not (eqb k 5 || eqb k 7)
+unfolding kind-of
+matrix-number zero l u = absurd (omega arith)
+matrix-number (suc zero) l u = refl
+matrix-number (suc (suc zero)) l u = refl
+matrix-number (suc (suc (suc zero))) l u = refl
+matrix-number (suc (suc (suc (suc zero)))) l u = refl
+matrix-number (suc (suc (suc (suc (suc zero))))) l u = refl
+matrix-number (suc (suc (suc (suc (suc (suc zero)))))) l u = refl
+matrix-number (suc (suc (suc (suc (suc (suc (suc zero))))))) l u = refl
+matrix-number (suc (suc (suc (suc (suc (suc (suc (suc zero)))))))) l u = refl
+matrix-number (suc (suc (suc (suc (suc (suc (suc (suc (suc k))))))))) l u = absurd (omega arith)
+
+pointer-number : (k : ℕ) (b : Block) → 1 ≤ k → k ≤ 8 → (k ≡ 5 → b .middle .class ≡ 4)
+    → pointer-by-kind (kind-of k) b ≡ (has-pointer k && eqb (pointer-node (kind-of k) b .class) 4)
+unfolding kind-of
+pointer-number zero b l u h = absurd (omega arith)
+pointer-number (suc zero) b l u h = refl
+pointer-number (suc (suc zero)) b l u h = refl
+pointer-number (suc (suc (suc zero))) b l u h = refl
+pointer-number (suc (suc (suc (suc zero)))) b l u h = refl
+pointer-number (suc (suc (suc (suc (suc zero))))) b l u h = sym (eq-eqb (b .middle .class) 4 (h refl))
+pointer-number (suc (suc (suc (suc (suc (suc zero)))))) b l u h = refl
+pointer-number (suc (suc (suc (suc (suc (suc (suc zero))))))) b l u h = refl
+pointer-number (suc (suc (suc (suc (suc (suc (suc (suc zero)))))))) b l u h = refl
+pointer-number (suc (suc (suc (suc (suc (suc (suc (suc (suc k))))))))) b l u h = absurd (omega arith)
 
 -- ---- tests
 pub both-true : (a b : Bool) → (a && b) ≡ true → (a ≡ true) × (b ≡ true)
@@ -149,66 +200,66 @@ run-bits t s n (suc q) l u =
     ∙ ap (bit t) n₁
 
 -- ---- a table that keeps a compare block's source, matrix and pointer as they are in another
-pub record Keeps (ws : List ℕ) (i : ℕ) (t u : List ℕ) : Type 0 where
-  pub source-kept : SameBits (block-of ws i .n) (source-in ws i u) (source-in ws i t)
-  pub matrix-kept : SameBits (block-of ws i .n) (matrix-in ws i u) (matrix-in ws i t)
-  pub pointer-kept : pointer-in ws i u ≡ pointer-in ws i t
+pub record Keeps (net : Network) (i : ℕ) (t u : List ℕ) : Type 0 where
+  pub source-kept : SameBits (block-of net i .n) (source-in net i u) (source-in net i t)
+  pub matrix-kept : SameBits (block-of net i .n) (matrix-in net i u) (matrix-in net i t)
+  pub pointer-kept : pointer-in net i u ≡ pointer-in net i t
 
-pub keeps-same : {ws : List ℕ} {i : ℕ} {t : List ℕ} → Keeps ws i t t
+pub keeps-same : {net : Network} {i : ℕ} {t : List ℕ} → Keeps net i t t
 keeps-same = record { source-kept = λ p l u. refl; matrix-kept = λ p l u. refl; pointer-kept = refl }
 
-pub keeps-on : {ws : List ℕ} {i : ℕ} {t u v : List ℕ} → Keeps ws i t u → Keeps ws i u v → Keeps ws i t v
+pub keeps-on : {net : Network} {i : ℕ} {t u v : List ℕ} → Keeps net i t u → Keeps net i u v → Keeps net i t v
 keeps-on a b = record {
   source-kept = λ p l u. b .source-kept p l u ∙ a .source-kept p l u;
   matrix-kept = λ p l u. b .matrix-kept p l u ∙ a .matrix-kept p l u;
   pointer-kept = b .pointer-kept ∙ a .pointer-kept;
 }
 
-module _ (ws : List ℕ) (i : ℕ) where
+module _ (net : Network) (i : ℕ) where
   -- words that are kept: those of the source, and the pointer with the matrix after it
   record Outside (d k : ℕ) : Type 0 where
-    from-source : (first-word (sizes-in ws) (block-of ws i .top) + block-of ws i .n ≤ d) ⊎ (d + k ≤ first-word (sizes-in ws) (block-of ws i .top))
-    from-pointer : (pointer-word ws i + (block-of ws i .n + 1) ≤ d) ⊎ (d + k ≤ pointer-word ws i)
+    from-source : (first-word net (block-of net i .top) + block-of net i .n ≤ d) ⊎ (d + k ≤ first-word net (block-of net i .top))
+    from-pointer : (pointer-word net i + (block-of net i .n + 1) ≤ d) ⊎ (d + k ≤ pointer-word net i)
 
-  outside-means : (d k : ℕ) → outside ws i d k ≡ true → Outside d k
+  outside-means : (d k : ℕ) → outside net i d k ≡ true → Outside d k
   outside-means d k e =
-      let h = both-true (apart (first-word (sizes-in ws) (block-of ws i .top)) (block-of ws i .n) d k) (apart (pointer-word ws i) (block-of ws i .n + 1) d k) e in
+      let h = both-true (apart (first-word net (block-of net i .top)) (block-of net i .n) d k) (apart (pointer-word net i) (block-of net i .n + 1) d k) e in
       record {
-        from-source = lie-apart (first-word (sizes-in ws) (block-of ws i .top)) (block-of ws i .n) d k (h .0);
-        from-pointer = lie-apart (pointer-word ws i) (block-of ws i .n + 1) d k (h .1);
+        from-source = lie-apart (first-word net (block-of net i .top)) (block-of net i .n) d k (h .0);
+        from-pointer = lie-apart (pointer-word net i) (block-of net i .n + 1) d k (h .1);
       }
 
   -- a matrix put outside them
-  placed-keeps : (t : List ℕ) (s : ℕ) (m : List ℕ) → s + length m ≤ length t → Outside s (length m) → Keeps ws i t (placed t s m)
+  placed-keeps : (t : List ℕ) (s : ℕ) (m : List ℕ) → s + length m ≤ length t → Outside s (length m) → Keeps net i t (placed t s m)
   placed-keeps t s m h o = record {
-    source-kept = kept (first-word (sizes-in ws) (block-of ws i .top)) (λ k l u. ⊎-elim (λ e. inl (omega arith)) (λ e. inr (omega arith)) (o .from-source));
-    matrix-kept = kept (pointer-word ws i + 1) (λ k l u. ⊎-elim (λ e. inl (omega arith)) (λ e. inr (omega arith)) (o .from-pointer));
-    pointer-kept = placed-elsewhere t s m h (pointer-word ws i) (⊎-elim (λ e. inl (omega arith)) (λ e. inr (omega arith)) (o .from-pointer));
+    source-kept = kept (first-word net (block-of net i .top)) (λ k l u. ⊎-elim (λ e. inl (omega arith)) (λ e. inr (omega arith)) (o .from-source));
+    matrix-kept = kept (pointer-word net i + 1) (λ k l u. ⊎-elim (λ e. inl (omega arith)) (λ e. inr (omega arith)) (o .from-pointer));
+    pointer-kept = placed-elsewhere t s m h (pointer-word net i) (⊎-elim (λ e. inl (omega arith)) (λ e. inr (omega arith)) (o .from-pointer));
   }
     where
-      kept : (a : ℕ) → ((k : ℕ) → a ≤ k → k < a + block-of ws i .n → (k < s) ⊎ (s + length m ≤ k)) → SameBits (block-of ws i .n) (run (placed t s m) a (block-of ws i .n)) (run t a (block-of ws i .n))
+      kept : (a : ℕ) → ((k : ℕ) → a ≤ k → k < a + block-of net i .n → (k < s) ⊎ (s + length m ≤ k)) → SameBits (block-of net i .n) (run (placed t s m) a (block-of net i .n)) (run t a (block-of net i .n))
       kept a far zero l u = absurd (omega arith)
       kept a far (suc q) l u =
-          same-bit (run (placed t s m) a (block-of ws i .n)) (run t a (block-of ws i .n)) q q refl
-          (run-at (placed t s m) a (block-of ws i .n) (q / 16) (omega arith)
+          same-bit (run (placed t s m) a (block-of net i .n)) (run t a (block-of net i .n)) q q refl
+          (run-at (placed t s m) a (block-of net i .n) (q / 16) (omega arith)
           ∙ placed-elsewhere t s m h (a + q / 16) (far (a + q / 16) (omega arith) (omega arith))
-          ∙ sym (run-at t a (block-of ws i .n) (q / 16) (omega arith)))
+          ∙ sym (run-at t a (block-of net i .n) (q / 16) (omega arith)))
 
-  put-keeps : (s : ℕ) (o : Option (List ℕ)) (t : List ℕ) → ((m : List ℕ) → o ≡ some m → (s + length m ≤ length t) × Outside s (length m)) → Keeps ws i t (matrix-put s o t)
+  put-keeps : (s : ℕ) (o : Option (List ℕ)) (t : List ℕ) → ((m : List ℕ) → o ≡ some m → (s + length m ≤ length t) × Outside s (length m)) → Keeps net i t (matrix-put s o t)
   unfolding matrix-put
   put-keeps s none t h = keeps-same
   put-keeps s (some m) t h = placed-keeps t s m (h m refl .0) (h m refl .1)
 
   -- a coil outside them
-  module _ (number : ℕ) (on : Bool) (t : List ℕ) (long : sizes-in ws .coils ≤ length t) (fits : number ≤ 16 * sizes-in ws .coils)
-      (held : sizes-in ws .coils ≤ pointer-word ws i) where
-    coil-kept : (a : ℕ) → (number ≡ 0) ⊎ ((a + block-of ws i .n ≤ (number - 1) / 16) ⊎ ((number - 1) / 16 + 1 ≤ a))
-        → SameBits (block-of ws i .n) (run (coil-put (sizes-in ws) number on t) a (block-of ws i .n)) (run t a (block-of ws i .n))
+  module _ (number : ℕ) (on : Bool) (t : List ℕ) (long : net .sizes .coils ≤ length t) (fits : number ≤ 16 * net .sizes .coils)
+      (held : net .sizes .coils ≤ pointer-word net i) where
+    coil-kept : (a : ℕ) → (number ≡ 0) ⊎ ((a + block-of net i .n ≤ (number - 1) / 16) ⊎ ((number - 1) / 16 + 1 ≤ a))
+        → SameBits (block-of net i .n) (run (coil-put net number on t) a (block-of net i .n)) (run t a (block-of net i .n))
     coil-kept a far q l u =
-        run-bits (coil-put (sizes-in ws) number on t) a (block-of ws i .n) q l u
-        ∙ coil-bits (sizes-in ws) number on t long fits (16 * a + q)
+        run-bits (coil-put net number on t) a (block-of net i .n) q l u
+        ∙ coil-bits net number on t long fits (16 * a + q)
         ∙ go (eqb number 0) refl (eqb (16 * a + q) number) refl
-        ∙ sym (run-bits t a (block-of ws i .n) q l u)
+        ∙ sym (run-bits t a (block-of net i .n) q l u)
       where
         apart-from : (number ≡ 0 → ⊥) → 16 * a + q ≡ number → ⊥
         apart-from n e = ⊎-elim (λ z. n z) (λ w. ⊎-elim (λ v. omega arith) (λ v. omega arith) w) far
@@ -219,101 +270,105 @@ module _ (ws : List ℕ) (i : ℕ) where
         go false e false f = refl
         go false e true f = absurd (apart-from (eqb-false number 0 e) (eqb-true (16 * a + q) number f))
 
-    coil-keeps : coil-outside ws i number ≡ true → Keeps ws i t (coil-put (sizes-in ws) number on t)
+    coil-keeps : coil-outside net i number ≡ true → Keeps net i t (coil-put net number on t)
     coil-keeps e = record {
-      source-kept = coil-kept (first-word (sizes-in ws) (block-of ws i .top)) (⊎-elim inl (λ o. inr (o .from-source)) where-it-is);
-      matrix-kept = coil-kept (pointer-word ws i + 1) (⊎-elim inl (λ o. inr (⊎-elim (λ l. inl (omega arith)) (λ l. inr (omega arith)) (o .from-pointer))) where-it-is);
-      pointer-kept = coil-word (sizes-in ws) number on t long (pointer-word ws i) held;
+      source-kept = coil-kept (first-word net (block-of net i .top)) (⊎-elim inl (λ o. inr (o .from-source)) where-it-is);
+      matrix-kept = coil-kept (pointer-word net i + 1) (⊎-elim inl (λ o. inr (⊎-elim (λ l. inl (omega arith)) (λ l. inr (omega arith)) (o .from-pointer))) where-it-is);
+      pointer-kept = coil-word net number on t long (pointer-word net i) held;
     }
       where
         where-it-is : (number ≡ 0) ⊎ Outside ((number - 1) / 16) 1
-        where-it-is = ⊎-elim (λ h. inl (eqb-true number 0 h)) (λ h. inr (outside-means ((number - 1) / 16) 1 h)) (either-true (eqb number 0) (outside ws i ((number - 1) / 16) 1) e)
+        where-it-is = ⊎-elim (λ h. inl (eqb-true number 0 h)) (λ h. inr (outside-means ((number - 1) / 16) 1 h)) (either-true (eqb number 0) (outside net i ((number - 1) / 16) 1) e)
 
   -- three coils outside them
-  coils-keep : (coils : Coils) (out : Power) (t : List ℕ) → sizes-in ws .coils ≤ length t → sizes-in ws .coils ≤ pointer-word ws i
-      → coils .top ≤ 16 * sizes-in ws .coils → coils .middle ≤ 16 * sizes-in ws .coils → coils .bottom ≤ 16 * sizes-in ws .coils
-      → coils-outside ws i coils ≡ true → Keeps ws i t (coils-put (sizes-in ws) coils out t)
+  coils-keep : (coils : Coils) (out : Outputs) (t : List ℕ) → net .sizes .coils ≤ length t → net .sizes .coils ≤ pointer-word net i
+      → coils .top ≤ 16 * net .sizes .coils → coils .middle ≤ 16 * net .sizes .coils → coils .bottom ≤ 16 * net .sizes .coils
+      → coils-outside net i coils ≡ true → Keeps net i t (coils-put net coils out t)
   coils-keep coils out t l held a c d e =
-      let h = both-true (coil-outside ws i (coils .top)) (coil-outside ws i (coils .middle) && coil-outside ws i (coils .bottom)) e in
-      let k = both-true (coil-outside ws i (coils .middle)) (coil-outside ws i (coils .bottom)) (h .1) in
-      let z : Sizes = sizes-in ws in
-      let t₁ : List ℕ = coil-put z (coils .top) (out .top) t in
-      let t₂ : List ℕ = coil-put z (coils .middle) (out .middle) t₁ in
-      let l₁ : z .coils ≤ length t₁ = omega (arith, l, coil-length z (coils .top) (out .top) t l) in
-      let l₂ : z .coils ≤ length t₂ = omega (arith, l₁, coil-length z (coils .middle) (out .middle) t₁ l₁) in
+      let h = both-true (coil-outside net i (coils .top)) (coil-outside net i (coils .middle) && coil-outside net i (coils .bottom)) e in
+      let k = both-true (coil-outside net i (coils .middle)) (coil-outside net i (coils .bottom)) (h .1) in
+      let t₁ : List ℕ = coil-put net (coils .top) (out .top) t in
+      let t₂ : List ℕ = coil-put net (coils .middle) (out .middle) t₁ in
+      let l₁ : net .sizes .coils ≤ length t₁ = omega (arith, l, coil-length net (coils .top) (out .top) t l) in
+      let l₂ : net .sizes .coils ≤ length t₂ = omega (arith, l₁, coil-length net (coils .middle) (out .middle) t₁ l₁) in
       keeps-on (coil-keeps (coils .top) (out .top) t l a held (h .0))
       (keeps-on (coil-keeps (coils .middle) (out .middle) t₁ l₁ c held (k .0)) (coil-keeps (coils .bottom) (out .bottom) t₂ l₂ d held (k .1)))
 
   -- ---- another block
-  module _ (earlier : ℕ) (b : Block) (t : List ℕ) (r : Runs (sizes-in ws) earlier b t) (on : Power) (held : sizes-in ws .coils ≤ pointer-word ws i)
-      (e : block-outside ws i b ≡ true) where
+  module _ (earlier : ℕ) (b : Block) (t : List ℕ) (r : Runs net earlier b t) (on : Power) (held : net .sizes .coils ≤ pointer-word net i)
+      (e : block-outside net i b ≡ true) where
     does : Effect
-    does = effect-on (sizes-in ws) b t on
+    does = effect-on net b t on
 
-    within : Within (writes-matrix (kind-of (b .kind))) (writes-pointer (kind-of (b .kind)) b) (b .n) does
+    within : Within (writes-matrix b) (writes-pointer b) (b .n) does
     unfolding does
-    within = kind-within (kind-of (b .kind)) b (view (kind-of (b .kind)) (sizes-in ws) b t) on
+    within =
+        let held-there : b .kind ≡ 5 → b .middle .class ≡ 4 = λ k. accepted-means (net .sizes) earlier b (r .good) .compare k .held in
+        subst₂ (λ (x y : Bool). Within x y (b .n) (effect-on net b t on))
+        (matrix-number (b .kind) (r .good .kind-low) (r .good .kind-high))
+        (pointer-number (b .kind) b (r .good .kind-low) (r .good .kind-high) held-there)
+        (kind-within (kind-of (b .kind)) b (view (kind-of (b .kind)) net b t) on)
 
-    tests : ((not (writes-matrix (kind-of (b .kind))) || outside ws i (first-word (sizes-in ws) (b .middle)) (b .n)) ≡ true)
-        × ((((not (writes-pointer (kind-of (b .kind)) b) || outside ws i (first-word (sizes-in ws) (pointer-node (kind-of (b .kind)) b)) 1)
-        && coils-outside ws i (b .coils))) ≡ true)
+    tests : ((not (writes-matrix b) || outside net i (first-word net (b .middle)) (b .n)) ≡ true)
+        × ((((not (writes-pointer b) || outside net i (first-word net (pointer-node (kind-of (b .kind)) b)) 1)
+        && coils-outside net i (b .coils))) ≡ true)
     tests = both-true _ _ e
 
-    rest : ((not (writes-pointer (kind-of (b .kind)) b) || outside ws i (first-word (sizes-in ws) (pointer-node (kind-of (b .kind)) b)) 1) ≡ true)
-        × (coils-outside ws i (b .coils) ≡ true)
+    rest : ((not (writes-pointer b) || outside net i (first-word net (pointer-node (kind-of (b .kind)) b)) 1) ≡ true)
+        × (coils-outside net i (b .coils) ≡ true)
     rest = both-true _ _ (tests .1)
 
     t₁ : List ℕ
-    t₁ = matrix-put (first-word (sizes-in ws) (b .middle)) (does .destination) t
+    t₁ = matrix-put (first-word net (b .middle)) (does .destination) t
 
     t₂ : List ℕ
-    t₂ = matrix-put (first-word (sizes-in ws) (pointer-node (kind-of (b .kind)) b)) (one-word (does .pointer)) t₁
+    t₂ = matrix-put (first-word net (pointer-node (kind-of (b .kind)) b)) (one-word (does .pointer)) t₁
 
-    long : length t ≡ total (sizes-in ws)
+    long : length t ≡ total (net .sizes)
     long = r .exact
 
-    room₁ : (m : List ℕ) → does .destination ≡ some m → first-word (sizes-in ws) (b .middle) + length m ≤ length t
+    room₁ : (m : List ℕ) → does .destination ≡ some m → first-word net (b .middle) + length m ≤ length t
     unfolding does
-    room₁ m q = subst (λ (k : ℕ). first-word (sizes-in ws) (b .middle) + length m ≤ k) (sym long) (destination-room (sizes-in ws) earlier b t r on m q)
+    room₁ m q = subst (λ (k : ℕ). first-word net (b .middle) + length m ≤ k) (sym long) (destination-room net earlier b t r on m q)
 
-    long₁ : length t₁ ≡ total (sizes-in ws)
+    long₁ : length t₁ ≡ total (net .sizes)
     unfolding t₁
-    long₁ = put-length (first-word (sizes-in ws) (b .middle)) (does .destination) t room₁ ∙ long
+    long₁ = put-length (first-word net (b .middle)) (does .destination) t room₁ ∙ long
 
-    room₂ : (m : List ℕ) → one-word (does .pointer) ≡ some m → first-word (sizes-in ws) (pointer-node (kind-of (b .kind)) b) + length m ≤ length t₁
+    room₂ : (m : List ℕ) → one-word (does .pointer) ≡ some m → first-word net (pointer-node (kind-of (b .kind)) b) + length m ≤ length t₁
     unfolding does
     room₂ m q =
-        subst (λ (k : ℕ). first-word (sizes-in ws) (pointer-node (kind-of (b .kind)) b) + length m ≤ k) (sym long₁) (pointer-room (sizes-in ws) earlier b t r on m q)
+        subst (λ (k : ℕ). first-word net (pointer-node (kind-of (b .kind)) b) + length m ≤ k) (sym long₁) (pointer-room net earlier b t r on m q)
 
-    long₂ : length t₂ ≡ total (sizes-in ws)
+    long₂ : length t₂ ≡ total (net .sizes)
     unfolding t₂
-    long₂ = put-length (first-word (sizes-in ws) (pointer-node (kind-of (b .kind)) b)) (one-word (does .pointer)) t₁ room₂ ∙ long₁
+    long₂ = put-length (first-word net (pointer-node (kind-of (b .kind)) b)) (one-word (does .pointer)) t₁ room₂ ∙ long₁
 
-    keeps₁ : Keeps ws i t t₁
+    keeps₁ : Keeps net i t t₁
     unfolding t₁
-    keeps₁ = put-keeps (first-word (sizes-in ws) (b .middle)) (does .destination) t (λ m q. (room₁ m q, far m q))
+    keeps₁ = put-keeps (first-word net (b .middle)) (does .destination) t (λ m q. (room₁ m q, far m q))
       where
-        far : (m : List ℕ) → does .destination ≡ some m → Outside (first-word (sizes-in ws) (b .middle)) (length m)
+        far : (m : List ℕ) → does .destination ≡ some m → Outside (first-word net (b .middle)) (length m)
         far m q =
             let w = within .destination-within m q in
-            subst (Outside (first-word (sizes-in ws) (b .middle))) (sym (w .1)) (outside-means _ _ (unless-true _ _ (tests .0) (w .0)))
+            subst (Outside (first-word net (b .middle))) (sym (w .1)) (outside-means _ _ (unless-true _ _ (tests .0) (w .0)))
 
     -- a pointer is one word
     one : (o : Option ℕ) (m : List ℕ) → one-word o ≡ some m → (w : ℕ) × ((o ≡ some w) × (length m ≡ 1))
     one none m q = no-some q
     one (some w) m q = let same : w ∷ [] ≡ m = cc in (w, (refl, sym (ap length same)))
 
-    keeps₂ : Keeps ws i t₁ t₂
+    keeps₂ : Keeps net i t₁ t₂
     unfolding t₂
-    keeps₂ = put-keeps (first-word (sizes-in ws) (pointer-node (kind-of (b .kind)) b)) (one-word (does .pointer)) t₁ (λ m q. (room₂ m q, far m q))
+    keeps₂ = put-keeps (first-word net (pointer-node (kind-of (b .kind)) b)) (one-word (does .pointer)) t₁ (λ m q. (room₂ m q, far m q))
       where
-        far : (m : List ℕ) → one-word (does .pointer) ≡ some m → Outside (first-word (sizes-in ws) (pointer-node (kind-of (b .kind)) b)) (length m)
+        far : (m : List ℕ) → one-word (does .pointer) ≡ some m → Outside (first-word net (pointer-node (kind-of (b .kind)) b)) (length m)
         far m q =
             let p = one (does .pointer) m q in
-            subst (Outside (first-word (sizes-in ws) (pointer-node (kind-of (b .kind)) b))) (sym (p .1 .1))
+            subst (Outside (first-word net (pointer-node (kind-of (b .kind)) b))) (sym (p .1 .1))
             (outside-means _ _ (unless-true _ _ (rest .0) (within .pointer-within (p .0) (p .1 .0))))
 
-    pub block-keeps : Keeps ws i t (block-table (sizes-in ws) b t on)
+    pub block-keeps : Keeps net i t (block-table net b t on)
     unfolding block-table does t₁ t₂
     block-keeps =
         keeps-on keeps₁
@@ -321,10 +376,10 @@ module _ (ws : List ℕ) (i : ℕ) where
         (coils-keep (b .coils) (outputs on does) t₂ (omega (arith, long₂)) held (r .good .top-coil) (r .good .middle-coil) (r .good .bottom-coil) (rest .1)))
 
   -- ---- the block itself, after its own pointer step: its coils
-  module _ (earlier : ℕ) (t : List ℕ) (r : Runs (sizes-in ws) earlier (block-of ws i) t) (on : Power) (held : sizes-in ws .coils ≤ pointer-word ws i)
-      (compares : block-of ws i .kind ≡ 5) (e : coils-outside ws i (block-of ws i .coils) ≡ true) where
+  module _ (earlier : ℕ) (t : List ℕ) (r : Runs net earlier (block-of net i) t) (on : Power) (held : net .sizes .coils ≤ pointer-word net i)
+      (compares : block-of net i .kind ≡ 5) (e : coils-outside net i (block-of net i .coils) ≡ true) where
     own : Effect
-    own = effect-on (sizes-in ws) (block-of ws i) t on
+    own = effect-on net (block-of net i) t on
 
     -- a compare writes no destination
     nothing-else : own .destination ≡ none
@@ -334,27 +389,27 @@ module _ (ws : List ℕ) (i : ℕ) where
         go : (o : Option (List ℕ)) → own .destination ≡ o → o ≡ none
         go none q = refl
         go (some m) q =
-            absurd (false≢true (sym (ap (λ (k : ℕ). writes-matrix (kind-of k)) compares)
-            ∙ kind-within (kind-of (block-of ws i .kind)) (block-of ws i) (view (kind-of (block-of ws i .kind)) (sizes-in ws) (block-of ws i) t) on .destination-within m q .0))
+            absurd (false≢true (sym (ap (λ (k : ℕ). matrix-by-kind (kind-of k)) compares)
+            ∙ kind-within (kind-of (block-of net i .kind)) (block-of net i) (view (kind-of (block-of net i .kind)) net (block-of net i) t) on .destination-within m q .0))
 
     own-step : List ℕ
-    own-step = matrix-put (pointer-word ws i) (one-word (own .pointer)) t
+    own-step = matrix-put (pointer-word net i) (one-word (own .pointer)) t
 
-    step-room : (m : List ℕ) → one-word (own .pointer) ≡ some m → pointer-word ws i + length m ≤ length t
+    step-room : (m : List ℕ) → one-word (own .pointer) ≡ some m → pointer-word net i + length m ≤ length t
     unfolding own kind-of
     step-room m q =
-        subst (λ (x : ℕ). pointer-word ws i + length m ≤ x) (sym (r .exact))
-        (subst (λ (k : ℕ). first-word (sizes-in ws) (pointer-node (kind-of k) (block-of ws i)) + length m ≤ total (sizes-in ws)) compares
-        (pointer-room (sizes-in ws) earlier (block-of ws i) t r on m q))
+        subst (λ (x : ℕ). pointer-word net i + length m ≤ x) (sym (r .exact))
+        (subst (λ (k : ℕ). first-word net (pointer-node (kind-of k) (block-of net i)) + length m ≤ total (net .sizes)) compares
+        (pointer-room net earlier (block-of net i) t r on m q))
 
-    step-long : length own-step ≡ total (sizes-in ws)
+    step-long : length own-step ≡ total (net .sizes)
     unfolding own-step
-    step-long = put-length (pointer-word ws i) (one-word (own .pointer)) t step-room ∙ r .exact
+    step-long = put-length (pointer-word net i) (one-word (own .pointer)) t step-room ∙ r .exact
 
-    pub own-keeps : Keeps ws i (matrix-put (pointer-word ws i) (one-word (effect-on (sizes-in ws) (block-of ws i) t on .pointer)) t) (block-table (sizes-in ws) (block-of ws i) t on)
+    pub own-keeps : Keeps net i (matrix-put (pointer-word net i) (one-word (effect-on net (block-of net i) t on .pointer)) t) (block-table net (block-of net i) t on)
     unfolding block-table own own-step kind-of matrix-put
     own-keeps =
-        subst (Keeps ws i own-step)
-        (sym (ap₂ (λ (k : ℕ) (d : Option (List ℕ)). coils-put (sizes-in ws) (block-of ws i .coils) (outputs on own)
-        (matrix-put (first-word (sizes-in ws) (pointer-node (kind-of k) (block-of ws i))) (one-word (own .pointer)) (matrix-put (pointer-word ws i) d t))) compares nothing-else))
-        (coils-keep (block-of ws i .coils) (outputs on own) own-step (omega (arith, step-long)) held (r .good .top-coil) (r .good .middle-coil) (r .good .bottom-coil) e)
+        subst (Keeps net i own-step)
+        (sym (ap₂ (λ (k : ℕ) (d : Option (List ℕ)). coils-put net (block-of net i .coils) (outputs on own)
+        (matrix-put (first-word net (pointer-node (kind-of k) (block-of net i))) (one-word (own .pointer)) (matrix-put (pointer-word net i) d t))) compares nothing-else))
+        (coils-keep (block-of net i .coils) (outputs on own) own-step (omega (arith, step-long)) held (r .good .top-coil) (r .good .middle-coil) (r .good .bottom-coil) e)

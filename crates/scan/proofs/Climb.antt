@@ -353,10 +353,6 @@ ascends f (suc k) i = go (f (suc i)) (ascends f k (suc i)) (look f k (suc i))
 -- ---- the reports of a compare of two matrices, from any pointer
 pub a-round : (a b : List ℕ) (n q : ℕ) → 1 ≤ n → Round a b n (run (differing a b) (16 * n) q (round a b n))
 a-round a b n q low = record {
-  before = map some lows;
-  after = map some highs ++ nothing e;
-  in-order = ap (λ (l : List ℕ). map some l ++ nothing e) split ∙ ap (λ (l : List (Option ℕ)). l ++ nothing e) (map-append some lows highs) ∙ append-assoc (map some lows) (map some highs) (nothing e);
-  rotated = shape;
   once = λ p l u t. count p ∙ once-inside f p N 0 (omega (arith, l)) (omega (arith, u)) ∙ ap (λ (x : Bool). cond x 1 0) t;
   no-other = λ p l u t. count p ∙ once-inside f p N 0 (omega (arith, l)) (omega (arith, u)) ∙ ap (λ (x : Bool). cond x 1 0) t;
   none-outside = λ p h. count p ∙ ⊎-elim (λ l. never-below f p N 0 (omega (arith, l))) (λ l. never-above f p N 0 (omega (arith, l))) h;

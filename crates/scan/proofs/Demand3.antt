@@ -8,7 +8,8 @@ use mathlib.Core.Option.{Option, some}
 use Prim.Native.Nat.{ℕ, zero, suc, _+_, _-_, _*_, _≤_, _<_}
 use native.Mathlib.Omega.{arith}
 use Rattle.matrix.specs.Search.{first, differing}
-use Rattle.scan.specs.Demand3.{round, block-of, visit, pointer-in, source, matrix, report, Stretch, reports, Round, Demand3}
+use Rattle.network.specs.Network.{Network, block-of}
+use Rattle.scan.specs.Demand3.{round, visit, pointer-in, source, matrix, report, Stretch, reports, Round, Demand3}
 use Rattle.scan.proofs.Climb.{from, from-below, ends, run, a-round}
 use Rattle.scan.proofs.Climb.{found as finds}
 use Rattle.scan.proofs.Visits.{some-words, visit-reports, next-pointer, next-differs}
@@ -23,26 +24,26 @@ first-same f g (suc k) i h =
 finds-same : (f g : ℕ → Bool) (N q : ℕ) → ((p : ℕ) → 1 ≤ p → p ≤ N → f p ≡ g p) → from f N q ≤ N → finds f N q ≡ finds g N q
 finds-same f g N q h u = first-same f g (N - from f N q) (from f N q) (λ p l v. h p (omega arith) (omega arith))
 
-module _ {ws : List ℕ} {i m : ℕ} {given : ℕ → List ℕ} (S : Stretch ws i m given) (f : ℕ → Bool) where
+module _ {net : Network} {i m : ℕ} {given : ℕ → List ℕ} (S : Stretch net i m given) (f : ℕ → Bool) where
   N : ℕ
-  N = 16 * block-of ws i .n
+  N = 16 * block-of net i .n
 
   pointer : ℕ → ℕ
-  pointer j = pointer-in ws i (visit ws i (given j) .table)
+  pointer j = pointer-in net i (visit net i (given j) .table)
 
   -- the differences at scan j are those of f
   Same : ℕ → Type 0
-  Same j = (p : ℕ) → 1 ≤ p → p ≤ N → differing (source ws i (given j)) (matrix ws i (given j)) p ≡ f p
+  Same j = (p : ℕ) → 1 ≤ p → p ≤ N → differing (source net i (given j)) (matrix net i (given j)) p ≡ f p
 
   -- a scan reports what the search finds
-  one-report : (j : ℕ) → j < m → Same j → report ws i (given j) ≡ finds f N (pointer j)
+  one-report : (j : ℕ) → j < m → Same j → report net i (given j) ≡ finds f N (pointer j)
   unfolding N pointer Same
-  one-report j l h = visit-reports S j l ∙ finds-same (differing (source ws i (given j)) (matrix ws i (given j))) f N (pointer j) h (omega (arith, low))
+  one-report j l h = visit-reports S j l ∙ finds-same (differing (source net i (given j)) (matrix net i (given j))) f N (pointer j) h (omega (arith, low))
     where
       low : from f N (pointer j) < N
       low = from-below f N (omega (arith, some-words S)) (pointer j)
 
-  reports-run : (k j : ℕ) → j + k ≤ m → Same j → reports ws i given j k ≡ run f N (pointer j) k
+  reports-run : (k j : ℕ) → j + k ≤ m → Same j → reports net i given j k ≡ run f N (pointer j) k
   unfolding reports run N pointer Same
   reports-run zero j l h = refl
   reports-run (suc zero) j l h = ap (λ (o : Option ℕ). o ∷ []) (one-report j (omega arith) h)
@@ -56,8 +57,8 @@ module _ {ws : List ℕ} {i m : ℕ} {given : ℕ → List ℕ} (S : Stretch ws 
 
 pub demand-3 : Demand3
 unfolding N pointer Same
-demand-3 ws i m given S j l =
-    let a : List ℕ = source ws i (given j) in
-    let b : List ℕ = matrix ws i (given j) in
-    let n : ℕ = block-of ws i .n in
-    subst (Round a b n) (sym (reports-run S (differing a b) (round a b n) j l (λ p low high. refl))) (a-round a b n (pointer-in ws i (visit ws i (given j) .table)) (some-words S))
+demand-3 net i m given S j l =
+    let a : List ℕ = source net i (given j) in
+    let b : List ℕ = matrix net i (given j) in
+    let n : ℕ = block-of net i .n in
+    subst (Round a b n) (sym (reports-run S (differing a b) (round a b n) j l (λ p low high. refl))) (a-round a b n (pointer-in net i (visit net i (given j) .table)) (some-words S))

@@ -14,7 +14,7 @@ use prog.Routine.{Routine}
 use prog.Wp.{Heap}
 use Rattle.bits.specs.declared.Verdict.{Verdict}
 use Rattle.bits.specs.Promise.{DecidesBoth}
-use Rattle.scan.specs.declared.records.Outputs.{Outputs}
+use Rattle.blocks.specs.declared.Outputs.{Outputs}
 use Rattle.scan.specs.Records.{Recorded}
 use Rattle.scan.proofs.records.scan as scan
 use Rattle.scan.proofs.scan_packed.Reads as packed-reads

@@ -10,8 +10,7 @@ use lib.ListN.{length, getD, set}
 use lib.Seq.{getD-set-same, getD-set-other}
 use Rattle.network.specs.declared.sizes.Sizes.{Sizes}
 use Rattle.network.specs.declared.block.Block.{Block}
-use Rattle.network.specs.Record.{block-at}
-use Rattle.network.specs.Check.{sizes-in, block-start}
+use Rattle.network.specs.Network.{Network, areas-only, block-of}
 use Rattle.blocks.specs.View.{first-word}
 use Rattle.scan.specs.declared.located.Located.{Located}
 use Rattle.scan.specs.Inner.{located-at}
@@ -21,23 +20,23 @@ abbrev made : Block → ℕ → ℕ → Located
 made b top middle = record { block = b; top = top; middle = middle }
 
 -- ---- the first k entries are the records of the first k blocks
-abbrev pub Filled : List ℕ → ℕ → List Located → Type 0
-Filled ws k blocks = (i : ℕ) → i < k → (otherwise : Located) → getD blocks i otherwise ≡ located-at ws i
+abbrev pub Filled : Network → ℕ → List Located → Type 0
+Filled net k blocks = (i : ℕ) → i < k → (otherwise : Located) → getD blocks i otherwise ≡ located-at net i
 
-pub one-filled : (ws : List ℕ) {k : ℕ} (blocks : List Located) {one : Located} → Filled ws k blocks → k < length blocks → one ≡ located-at ws k → Filled ws (k + 1) (set blocks k one)
-one-filled ws {k} blocks {one} h l e i u d = go (eqb i k) refl
+pub one-filled : (net : Network) {k : ℕ} (blocks : List Located) {one : Located} → Filled net k blocks → k < length blocks → one ≡ located-at net k → Filled net (k + 1) (set blocks k one)
+one-filled net {k} blocks {one} h l e i u d = go (eqb i k) refl
   where
-    go : (a : Bool) → eqb i k ≡ a → getD (set blocks k one) i d ≡ located-at ws i
+    go : (a : Bool) → eqb i k ≡ a → getD (set blocks k one) i d ≡ located-at net i
     go true q =
         let same : i ≡ k = eqb-true i k q in
-        ap (λ (n : ℕ). getD (set blocks k one) n d) same ∙ getD-set-same blocks k one d l ∙ e ∙ ap (located-at ws) (sym same)
+        ap (λ (n : ℕ). getD (set blocks k one) n d) same ∙ getD-set-same blocks k one d l ∙ e ∙ ap (located-at net) (sym same)
     go false q = let other = eqb-false i k q in getD-set-other blocks k i one d other ∙ h i (omega (arith, u)) d
 
 -- a record that was read, and the indexes that were worked out, are the next block's
-pub is-located : (ws : List ℕ) (k : ℕ) {z : Sizes} {b : Block} {top middle : ℕ} → z ≡ sizes-in ws → b ≡ block-at ws (block-start k)
-    → top ≡ first-word z (b .top) → middle ≡ first-word z (b .middle) → made b top middle ≡ located-at ws k
-is-located ws k p q e f = λ i. record {
+pub is-located : (net : Network) (k : ℕ) {z : Sizes} {b : Block} {top middle : ℕ} → z ≡ net .sizes → b ≡ block-of net k
+    → top ≡ first-word (areas-only z) (b .top) → middle ≡ first-word (areas-only z) (b .middle) → made b top middle ≡ located-at net k
+is-located net k p q e f = λ i. record {
   block = q i;
-  top = (e ∙ ap₂ (λ (y : Sizes) (c : Block). first-word y (c .top)) p q) i;
-  middle = (f ∙ ap₂ (λ (y : Sizes) (c : Block). first-word y (c .middle)) p q) i;
+  top = (e ∙ ap₂ (λ (y : Sizes) (c : Block). first-word (areas-only y) (c .top)) p q) i;
+  middle = (f ∙ ap₂ (λ (y : Sizes) (c : Block). first-word (areas-only y) (c .middle)) p q) i;
 }

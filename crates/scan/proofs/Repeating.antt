@@ -6,63 +6,57 @@ use native.Mathlib.Nat.{suc-mul, mul-le-mul-right}
 use native.Mathlib.Omega.{arith}
 use lib.ListN.{length, length-append, length-map}
 use Rattle.network.specs.Table.{total}
-use Rattle.network.specs.Record.{word}
-use Rattle.network.specs.Check.{sizes-in}
-use Rattle.network.specs.Sound.{Sound}
+use Rattle.network.specs.Network.{Network, block-count}
+use Rattle.network.specs.Sound.{GoodNetwork}
 use Rattle.scan.specs.Scan.{scanned, packed}
 use Rattle.scan.specs.Scans.{scan-pointers, scans-table, scans-outputs, scans-pointers}
-use Rattle.scan.proofs.Kept.{exact-after}
-use Rattle.scan.proofs.Scanning.{after, outs-count, pointers-so-far, marks-count}
+use Rattle.scan.proofs.Kept.{scanned-exact}
+use Rattle.scan.proofs.Scanning.{all-outs-count, all-marks-count}
 
 -- ---- one scan more, at the end
-pub table-next : (ws : List ℕ) (j : ℕ) (t : List ℕ) → scans-table ws t (suc j) ≡ scanned ws (scans-table ws t j) .table
+pub table-next : (net : Network) (j : ℕ) (t : List ℕ) → scans-table net t (suc j) ≡ scanned net (scans-table net t j) .table
 unfolding scans-table
-table-next ws zero t = refl
-table-next ws (suc j) t = table-next ws j (scanned ws t .table)
+table-next net zero t = refl
+table-next net (suc j) t = table-next net j (scanned net t .table)
 
-pub outputs-next : (ws : List ℕ) (j : ℕ) (t : List ℕ) → scans-outputs ws t (suc j) ≡ scans-outputs ws t j ++ map packed (scanned ws (scans-table ws t j) .outs)
+pub outputs-next : (net : Network) (j : ℕ) (t : List ℕ) → scans-outputs net t (suc j) ≡ scans-outputs net t j ++ map packed (scanned net (scans-table net t j) .outs)
 unfolding scans-table scans-outputs
-outputs-next ws zero t = append-nil (map packed (scanned ws t .outs))
-outputs-next ws (suc j) t =
-    ap (λ (l : List ℕ). map packed (scanned ws t .outs) ++ l) (outputs-next ws j (scanned ws t .table))
-    ∙ sym (append-assoc (map packed (scanned ws t .outs)) (scans-outputs ws (scanned ws t .table) j) (map packed (scanned ws (scans-table ws (scanned ws t .table) j) .outs)))
+outputs-next net zero t = append-nil (map packed (scanned net t .outs))
+outputs-next net (suc j) t =
+    ap (λ (l : List ℕ). map packed (scanned net t .outs) ++ l) (outputs-next net j (scanned net t .table))
+    ∙ sym (append-assoc (map packed (scanned net t .outs)) (scans-outputs net (scanned net t .table) j) (map packed (scanned net (scans-table net (scanned net t .table) j) .outs)))
 
-pub pointers-next : (ws : List ℕ) (j : ℕ) (t : List ℕ) → scans-pointers ws t (suc j) ≡ scans-pointers ws t j ++ scan-pointers ws (scans-table ws t j)
+pub pointers-next : (net : Network) (j : ℕ) (t : List ℕ) → scans-pointers net t (suc j) ≡ scans-pointers net t j ++ scan-pointers net (scans-table net t j)
 unfolding scans-table scans-pointers
-pointers-next ws zero t = append-nil (scan-pointers ws t)
-pointers-next ws (suc j) t =
-    ap (λ (l : List ℕ). scan-pointers ws t ++ l) (pointers-next ws j (scanned ws t .table))
-    ∙ sym (append-assoc (scan-pointers ws t) (scans-pointers ws (scanned ws t .table) j) (scan-pointers ws (scans-table ws (scanned ws t .table) j)))
+pointers-next net zero t = append-nil (scan-pointers net t)
+pointers-next net (suc j) t =
+    ap (λ (l : List ℕ). scan-pointers net t ++ l) (pointers-next net j (scanned net t .table))
+    ∙ sym (append-assoc (scan-pointers net t) (scans-pointers net (scanned net t .table) j) (scan-pointers net (scans-table net (scanned net t .table) j)))
 
 -- how many entries
-one-count : (ws t : List ℕ) → length (map packed (scanned ws t .outs)) ≡ word ws 5
-unfolding after
-one-count ws t = length-map (scanned ws t .outs) packed ∙ outs-count ws t (word ws 5)
+pub one-count : (net : Network) (t : List ℕ) → length (map packed (scanned net t .outs)) ≡ block-count net
+one-count net t = length-map (scanned net t .outs) packed ∙ all-outs-count net t
 
-one-marks : (ws t : List ℕ) → length (scan-pointers ws t) ≡ word ws 5
-unfolding pointers-so-far
-one-marks ws t = marks-count ws t (word ws 5)
-
-pub outputs-count : (ws : List ℕ) (j : ℕ) (t : List ℕ) → length (scans-outputs ws t j) ≡ j * word ws 5
+pub outputs-count : (net : Network) (j : ℕ) (t : List ℕ) → length (scans-outputs net t j) ≡ j * block-count net
 unfolding scans-outputs
-outputs-count ws zero t = omega arith
-outputs-count ws (suc j) t =
-    length-append (map packed (scanned ws t .outs)) (scans-outputs ws (scanned ws t .table) j)
-    ∙ ap₂ _+_ (one-count ws t) (outputs-count ws j (scanned ws t .table))
-    ∙ omega (arith, suc-mul j (word ws 5))
+outputs-count net zero t = omega arith
+outputs-count net (suc j) t =
+    length-append (map packed (scanned net t .outs)) (scans-outputs net (scanned net t .table) j)
+    ∙ ap₂ _+_ (one-count net t) (outputs-count net j (scanned net t .table))
+    ∙ omega (arith, suc-mul j (block-count net))
 
-pub pointers-count : (ws : List ℕ) (j : ℕ) (t : List ℕ) → length (scans-pointers ws t j) ≡ j * word ws 5
+pub pointers-count : (net : Network) (j : ℕ) (t : List ℕ) → length (scans-pointers net t j) ≡ j * block-count net
 unfolding scans-pointers
-pointers-count ws zero t = omega arith
-pointers-count ws (suc j) t =
-    length-append (scan-pointers ws t) (scans-pointers ws (scanned ws t .table) j)
-    ∙ ap₂ _+_ (one-marks ws t) (pointers-count ws j (scanned ws t .table))
-    ∙ omega (arith, suc-mul j (word ws 5))
+pointers-count net zero t = omega arith
+pointers-count net (suc j) t =
+    length-append (scan-pointers net t) (scans-pointers net (scanned net t .table) j)
+    ∙ ap₂ _+_ (all-marks-count net t) (pointers-count net j (scanned net t .table))
+    ∙ omega (arith, suc-mul j (block-count net))
 
-pub scans-exact : (ws : List ℕ) → Sound ws → (j : ℕ) (t : List ℕ) → length t ≡ total (sizes-in ws) → length (scans-table ws t j) ≡ total (sizes-in ws)
+pub scans-exact : (net : Network) → GoodNetwork net → (j : ℕ) (t : List ℕ) → length t ≡ total (net .sizes) → length (scans-table net t j) ≡ total (net .sizes)
 unfolding scans-table
-scans-exact ws s zero t e = e
-scans-exact ws s (suc j) t e = scans-exact ws s j (scanned ws t .table) (exact-after ws t s e (word ws 5) (omega arith))
+scans-exact net s zero t e = e
+scans-exact net s (suc j) t e = scans-exact net s j (scanned net t .table) (scanned-exact net t s e)
 
 -- there is room for one scan more
 pub next-room : (j times count n : ℕ) → j < times → times * count ≤ n → j * count + count ≤ n

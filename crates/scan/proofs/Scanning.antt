@@ -1,97 +1,104 @@
--- The laws of the first k blocks of a scan: the state that they leave, with an output for each, and their pointers; and of the
--- reader's answer, which is the record of the next one. Assumes nothing.
+-- The laws of the first k blocks of a scan: the state that they leave, with an output for each, and their pointers; of all blocks;
+-- and of an opening and its reader: the network's sizes, its count, and the record of the next block. Assumes nothing.
 use mathlib.Core.Path.{_≡_, refl, sym, ap, _∙_}
 use mathlib.Core.List.{List, [], _∷_, _++_}
-use Prim.Native.Nat.{ℕ, zero, suc, _+_, _-_, _<_}
+use Prim.Native.Nat.{ℕ, suc, _+_, _≤_, _<_}
 use native.Mathlib.Omega.{arith}
-use lib.ListN.{length, length-append}
+use lib.ListN.{length, take, length-append}
+use lib.Seq.{take-suc, take-length, length-take-le}
 use Rattle.bits.specs.declared.Verdict.{Verdict}
 use Rattle.network.specs.declared.block.Block.{Block}
 use Rattle.network.specs.declared.checker.Opened.{Opened}
 use Rattle.network.specs.declared.reader.Read.the-variants.{Record, Refused}
-use Rattle.network.specs.Record.{word, block-at}
-use Rattle.network.specs.Check.{sizes-in, block-start, opened, checked, read-at}
-use Rattle.network.proofs.Reading.{read-record}
-use Rattle.scan.specs.Scan.{State, step, steps, blocks-from}
-use Rattle.scan.specs.Scans.{pointer-of, pointers-after}
+use Rattle.network.specs.Network.{Network, no-block, block-of, block-count}
+use Rattle.network.specs.Check.{opened, checked, network-in, read-at}
+use Rattle.network.proofs.Values.{opened-sizes, opened-count, reads-block}
+use Rattle.scan.specs.Scan.{State, fresh, step, steps, scanned}
+use Rattle.scan.specs.Scans.{pointer-of, pointers-after, scan-pointers}
 
--- ---- the state after k blocks
-unfoldable pub after : List ℕ → List ℕ → ℕ → State
-after ws t k = steps (sizes-in ws) (blocks-from ws 0 k) (record { table = t; outs = [] })
+-- ---- blocks and then others
+module _ (net : Network) where
+  steps-append : (front bs : List Block) (s : State) → steps net (front ++ bs) s ≡ steps net bs (steps net front s)
+  unfolding steps
+  steps-append [] bs s = refl
+  steps-append (a ∷ front) bs s = steps-append front bs (step net a s)
 
-last-block : (ws : List ℕ) (n j : ℕ) (s : State)
-    → steps (sizes-in ws) (blocks-from ws j (suc n)) s ≡ step (sizes-in ws) (block-at ws (block-start (j + n))) (steps (sizes-in ws) (blocks-from ws j n) s)
-unfolding steps blocks-from
-last-block ws zero j s = let e : j + 0 ≡ j = omega arith in ap (λ (i : ℕ). step (sizes-in ws) (block-at ws (block-start i)) s) (sym e)
-last-block ws (suc n) j s =
-    let e : suc j + n ≡ j + suc n = omega arith in
-    last-block ws n (suc j) (step (sizes-in ws) (block-at ws (block-start j)) s)
-    ∙ ap (λ (i : ℕ). step (sizes-in ws) (block-at ws (block-start i)) (steps (sizes-in ws) (blocks-from ws (suc j) n) (step (sizes-in ws) (block-at ws (block-start j)) s))) e
+  pointers-append : (front bs : List Block) (s : State) → pointers-after net (front ++ bs) s ≡ pointers-after net front s ++ pointers-after net bs (steps net front s)
+  unfolding steps pointers-after
+  pointers-append [] bs s = refl
+  pointers-append (a ∷ front) bs s = ap (λ (l : List ℕ). pointer-of net a (step net a s .table) ∷ l) (pointers-append front bs (step net a s))
 
-pub after-next : (ws t : List ℕ) (k : ℕ) → after ws t (suc k) ≡ step (sizes-in ws) (block-at ws (block-start k)) (after ws t k)
-unfolding after
-after-next ws t k =
-    let e : 0 + k ≡ k = omega arith in
-    last-block ws k 0 (record { table = t; outs = [] })
-    ∙ ap (λ (i : ℕ). step (sizes-in ws) (block-at ws (block-start i)) (steps (sizes-in ws) (blocks-from ws 0 k) (record { table = t; outs = [] }))) e
+  -- an output and a pointer for each
+  outs-long : (bs : List Block) (s : State) → length (steps net bs s .outs) ≡ length (s .outs) + length bs
+  unfolding steps step
+  outs-long [] s = omega arith
+  outs-long (b ∷ bs) s = outs-long bs (step net b s) ∙ ap (λ (n : ℕ). n + length bs) (length-append (s .outs) _) ∙ omega arith
 
--- an output for each block
-pub outs-count : (ws t : List ℕ) (k : ℕ) → length (after ws t k .outs) ≡ k
-unfolding after steps blocks-from step
-outs-count ws t zero = refl
-outs-count ws t (suc k) =
-    ap (λ (s : State). length (s .outs)) (after-next ws t k)
-    ∙ length-append (after ws t k .outs) _
-    ∙ omega (arith, outs-count ws t k)
+  pointers-long : (bs : List Block) (s : State) → length (pointers-after net bs s) ≡ length bs
+  unfolding pointers-after
+  pointers-long [] s = refl
+  pointers-long (b ∷ bs) s = ap suc (pointers-long bs (step net b s))
 
--- ---- the pointers of k blocks
-unfoldable pub pointers-so-far : List ℕ → List ℕ → ℕ → List ℕ
-pointers-so-far ws t k = pointers-after (sizes-in ws) (blocks-from ws 0 k) (record { table = t; outs = [] })
+-- ---- the state after k blocks, and their pointers
+unfoldable pub after : Network → List ℕ → ℕ → State
+after net t k = steps net (take k (net .blocks)) (fresh t)
 
-last-mark : (ws : List ℕ) (n j : ℕ) (s : State)
-    → pointers-after (sizes-in ws) (blocks-from ws j (suc n)) s
-    ≡ pointers-after (sizes-in ws) (blocks-from ws j n) s
-    ++ pointer-of (sizes-in ws) (block-at ws (block-start (j + n))) (step (sizes-in ws) (block-at ws (block-start (j + n))) (steps (sizes-in ws) (blocks-from ws j n) s) .table) ∷ []
-unfolding steps blocks-from pointers-after
-last-mark ws zero j s =
-    let e : j + 0 ≡ j = omega arith in
-    ap (λ (i : ℕ). pointer-of (sizes-in ws) (block-at ws (block-start i)) (step (sizes-in ws) (block-at ws (block-start i)) s .table) ∷ []) (sym e)
-last-mark ws (suc n) j s =
-    let e : suc j + n ≡ j + suc n = omega arith in
-    let next : State = step (sizes-in ws) (block-at ws (block-start j)) s in
-    ap (λ (l : List ℕ). pointer-of (sizes-in ws) (block-at ws (block-start j)) (next .table) ∷ l)
-    (last-mark ws n (suc j) next
-    ∙ ap (λ (i : ℕ). pointers-after (sizes-in ws) (blocks-from ws (suc j) n) next
-    ++ pointer-of (sizes-in ws) (block-at ws (block-start i)) (step (sizes-in ws) (block-at ws (block-start i)) (steps (sizes-in ws) (blocks-from ws (suc j) n) next) .table) ∷ []) e)
+unfoldable pub pointers-so-far : Network → List ℕ → ℕ → List ℕ
+pointers-so-far net t k = pointers-after net (take k (net .blocks)) (fresh t)
 
-pub mark-next : (ws t : List ℕ) (k : ℕ)
-    → pointers-so-far ws t (suc k) ≡ pointers-so-far ws t k ++ pointer-of (sizes-in ws) (block-at ws (block-start k)) (after ws t (suc k) .table) ∷ []
-unfolding after pointers-so-far
-mark-next ws t k =
-    let e : 0 + k ≡ k = omega arith in
-    let first : State = record { table = t; outs = [] } in
-    last-mark ws k 0 first
-    ∙ ap (λ (i : ℕ). pointers-so-far ws t k
-    ++ pointer-of (sizes-in ws) (block-at ws (block-start i)) (step (sizes-in ws) (block-at ws (block-start i)) (steps (sizes-in ws) (blocks-from ws 0 k) first) .table) ∷ []) e
-    ∙ ap (λ (s : State). pointers-so-far ws t k ++ pointer-of (sizes-in ws) (block-at ws (block-start k)) (s .table) ∷ []) (sym (after-next ws t k))
+module _ (net : Network) (t : List ℕ) where
+  module _ (k : ℕ) (l : k < block-count net) where
+    pub after-next : after net t (suc k) ≡ step net (block-of net k) (after net t k)
+    unfolding after steps
+    after-next =
+        ap (λ (bs : List Block). steps net bs (fresh t)) (take-suc (net .blocks) k no-block l)
+        ∙ steps-append net (take k (net .blocks)) (block-of net k ∷ []) (fresh t)
 
-pub marks-count : (ws t : List ℕ) (k : ℕ) → length (pointers-so-far ws t k) ≡ k
-unfolding pointers-so-far blocks-from pointers-after
-marks-count ws t zero = refl
-marks-count ws t (suc k) = ap length (mark-next ws t k) ∙ length-append (pointers-so-far ws t k) _ ∙ omega (arith, marks-count ws t k)
+    pub mark-next : pointers-so-far net t (suc k) ≡ pointers-so-far net t k ++ pointer-of net (block-of net k) (after net t (suc k) .table) ∷ []
+    unfolding after pointers-so-far pointers-after
+    mark-next =
+        ap (λ (bs : List Block). pointers-after net bs (fresh t)) (take-suc (net .blocks) k no-block l)
+        ∙ pointers-append net (take k (net .blocks)) (block-of net k ∷ []) (fresh t)
+        ∙ ap (λ (s : State). pointers-so-far net t k ++ pointer-of net (block-of net k) (s .table) ∷ []) (sym after-next)
+
+  module _ (k : ℕ) (l : k ≤ block-count net) where
+    pub outs-count : length (after net t k .outs) ≡ k
+    unfolding after
+    outs-count = omega (arith, outs-long net (take k (net .blocks)) (fresh t), length-take-le k (net .blocks) l)
+
+    pub marks-count : length (pointers-so-far net t k) ≡ k
+    unfolding pointers-so-far
+    marks-count = pointers-long net (take k (net .blocks)) (fresh t) ∙ length-take-le k (net .blocks) l
+
+  -- all blocks are a scan
+  pub after-all : after net t (block-count net) ≡ scanned net t
+  unfolding after
+  after-all = ap (λ (bs : List Block). steps net bs (fresh t)) (take-length (net .blocks))
+
+  pub pointers-all : pointers-so-far net t (block-count net) ≡ scan-pointers net t
+  unfolding pointers-so-far
+  pointers-all = ap (λ (bs : List Block). pointers-after net bs (fresh t)) (take-length (net .blocks))
+
+  pub all-outs-count : length (scanned net t .outs) ≡ block-count net
+  all-outs-count = omega (arith, outs-long net (net .blocks) (fresh t))
+
+  pub all-marks-count : length (scan-pointers net t) ≡ block-count net
+  all-marks-count = pointers-long net (net .blocks) (fresh t)
+
+-- ---- an opening has the sizes and the count of the network
+module _ (ws : List ℕ) {o : Opened} (e : o ≡ opened ws) where
+  pub sizes-are : o .sizes ≡ network-in ws .sizes
+  sizes-are = ap (λ (x : Opened). x .sizes) e ∙ opened-sizes ws
+
+  pub count-is : o .count ≡ block-count (network-in ws)
+  count-is = ap (λ (x : Opened). x .count) e ∙ opened-count ws
 
 -- ---- the reader's answer is the record of the next block
-module _ (ws : List ℕ) (o : Opened) (k : ℕ) (e : o ≡ opened ws) (h : checked ws .number ≡ 0) (l : k < word ws 5) where
-  reads : read-at ws o (k + 1) ≡ Record (block-at ws (block-start k))
-  unfolding opened
-  reads =
-      let n : k + 1 - 1 ≡ k = omega arith in
-      ap (λ (x : Opened). read-at ws x (k + 1)) e
-      ∙ read-record ws (opened ws) (k + 1) h (omega arith) (omega (arith, l))
-      ∙ ap (λ (i : ℕ). Record (block-at ws (block-start i))) n
-
-  pub is-next : {b : Block} → read-at ws o (k + 1) ≡ Record b → b ≡ block-at ws (block-start k)
-  is-next {b} q = let p : Record b ≡ Record (block-at ws (block-start k)) = sym q ∙ reads in cc
+module _ (ws : List ℕ) (o : Opened) (k : ℕ) (e : o ≡ opened ws) (h : checked ws .number ≡ 0) (l : k < block-count (network-in ws)) where
+  pub is-next : {b : Block} → read-at ws o (k + 1) ≡ Record b → b ≡ block-of (network-in ws) k
+  is-next {b} q = let p : Record b ≡ Record (block-of (network-in ws) k) = sym q ∙ reads-block ws o k e h l in cc
 
   pub is-read : {v : Verdict} → read-at ws o (k + 1) ≡ Refused v → ⊥
-  is-read {v} q = let p : Refused v ≡ Record (block-at ws (block-start k)) = sym q ∙ reads in let z : _≡_ {A = ℕ} 0 1 = cc in omega arith
+  is-read {v} q =
+      let p : Refused v ≡ Record (block-of (network-in ws) k) = sym q ∙ reads-block ws o k e h l in
+      let z : _≡_ {A = ℕ} 0 1 = cc in omega arith

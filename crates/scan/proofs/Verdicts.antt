@@ -12,16 +12,18 @@ use Rattle.bits.specs.declared.Verdict.{Verdict}
 use Rattle.bits.specs.Promise.{LeavesTwo, LeavesThree}
 use Rattle.network.specs.declared.checker.Opened.{Opened}
 use Rattle.network.specs.Table.{total}
-use Rattle.network.specs.Record.{word}
-use Rattle.network.specs.Check.{verdict, done, sizes-in, opened, checked}
-use Rattle.network.proofs.Accepted.{accepts-exactly}
+use Rattle.network.specs.Network.{block-count}
+use Rattle.section.specs.Walk.{verdict, done}
+use Rattle.network.specs.Check.{opened, checked, network-in}
+use Rattle.network.proofs.Values.{accepted-good}
 use Rattle.scan.specs.Scan.{scanned, packed, scan-verdict, scan-table, scan-outputs}
 use Rattle.scan.specs.Scans.{scans-table, scans-outputs, scans-pointers, scans-verdict, scans-left, scans-packed, scans-marked}
 use Rattle.scan.specs.Inner.{Repeatable, Repeated}
+use Rattle.scan.proofs.Scanning.{sizes-are, count-is}
 
 module _ (ws t : List ℕ) where
   -- the verdict by its tests
-  pub by-tests : (outputs : List ℕ) (fine long enough : Bool) → eqb (checked ws .number) 0 ≡ fine → eqb (length t) (total (sizes-in ws)) ≡ long → leb (word ws 5) (length outputs) ≡ enough
+  pub by-tests : (outputs : List ℕ) (fine long enough : Bool) → eqb (checked ws .number) 0 ≡ fine → eqb (length t) (total (network-in ws .sizes)) ≡ long → leb (block-count (network-in ws)) (length outputs) ≡ enough
       → scan-verdict ws t outputs ≡ cond fine (cond (long && enough) done (verdict 12 0)) (checked ws)
   unfolding scan-verdict
   by-tests outputs fine long enough p q r i = cond (p i) (cond (q i && r i) done (verdict 12 0)) (checked ws)
@@ -33,9 +35,8 @@ module _ (ws t : List ℕ) where
     fine : o .verdict .number ≡ 0 → checked ws .number ≡ 0
     fine h = sym (ap (λ (x : Opened). x .verdict .number) e) ∙ h
 
-    long : length t ≡ total (o .sizes) → length t ≡ total (sizes-in ws)
-    unfolding opened
-    long h = h ∙ ap (λ (x : Opened). total (x .sizes)) e
+    long : length t ≡ total (o .sizes) → length t ≡ total (network-in ws .sizes)
+    long h = h ∙ ap total (sizes-are ws e)
 
 -- ---- several scans
 abbrev pub Repeats : List ℕ → List ℕ → ℕ → List ℕ → List ℕ → Verdict → List ℕ → List ℕ → List ℕ → Type 0
@@ -44,8 +45,8 @@ Repeats ws t times outputs pointers r table packs marks =
     (scans-packed ws t times outputs pointers) (scans-marked ws t times outputs pointers) r table packs marks
 
 module _ (ws t : List ℕ) (times : ℕ) (outputs pointers : List ℕ) where
-  repeat-tests : (fine long enough room : Bool) → eqb (checked ws .number) 0 ≡ fine → eqb (length t) (total (sizes-in ws)) ≡ long
-      → leb (times * word ws 5) (length outputs) ≡ enough → leb (times * word ws 5) (length pointers) ≡ room
+  repeat-tests : (fine long enough room : Bool) → eqb (checked ws .number) 0 ≡ fine → eqb (length t) (total (network-in ws .sizes)) ≡ long
+      → leb (times * block-count (network-in ws)) (length outputs) ≡ enough → leb (times * block-count (network-in ws)) (length pointers) ≡ room
       → scans-verdict ws t times outputs pointers ≡ cond fine (cond (long && (enough && room)) done (verdict 12 0)) (checked ws)
   unfolding scans-verdict
   repeat-tests fine long enough room p q r s i = cond (p i) (cond (q i && (r i && s i)) done (verdict 12 0)) (checked ws)
@@ -57,9 +58,9 @@ module _ (ws t : List ℕ) (times : ℕ) (outputs pointers : List ℕ) where
       let no = ne-eqb (scans-verdict ws t times outputs pointers .number) 0 (λ q. h (sym (ap (λ (x : Verdict). x .number) e) ∙ q)) in
       record {
         answers = sym e;
-        leaves-one = sym (ap (λ (a : Bool). cond a (scans-table ws t times) t) no);
-        leaves-other = sym (ap (λ (a : Bool). cond a (scans-outputs ws t times ++ drop (times * word ws 5) outputs) outputs) no);
-        leaves-last = sym (ap (λ (a : Bool). cond a (scans-pointers ws t times ++ drop (times * word ws 5) pointers) pointers) no);
+        leaves-one = sym (ap (λ (a : Bool). cond a (scans-table (network-in ws) t times) t) no);
+        leaves-other = sym (ap (λ (a : Bool). cond a (scans-outputs (network-in ws) t times ++ drop (times * block-count (network-in ws)) outputs) outputs) no);
+        leaves-last = sym (ap (λ (a : Bool). cond a (scans-pointers (network-in ws) t times ++ drop (times * block-count (network-in ws)) pointers) pointers) no);
       }
 
   module _ {o : Opened} (e : o ≡ opened ws) where
@@ -69,30 +70,28 @@ module _ (ws t : List ℕ) (times : ℕ) (outputs pointers : List ℕ) where
         (repeat-tests false _ _ _ (ne-eqb (checked ws .number) 0 (by-words ws t e h)) refl refl refl ∙ sym (ap (λ (x : Opened). x .verdict) e)) h
 
     pub repeat-table : o .verdict .number ≡ 0 → (length t ≡ total (o .sizes) → ⊥) → Repeats ws t times outputs pointers (verdict 12 0) t outputs pointers
-    unfolding opened
     repeat-table h n =
         repeat-refused (verdict 12 0)
-        (repeat-tests true false _ _ (eq-eqb (checked ws .number) 0 (fine ws t e h)) (ne-eqb (length t) (total (sizes-in ws)) (λ q. n (q ∙ sym (ap (λ (x : Opened). total (x .sizes)) e)))) refl refl)
+        (repeat-tests true false _ _ (eq-eqb (checked ws .number) 0 (fine ws t e h)) (ne-eqb (length t) (total (network-in ws .sizes)) (λ q. n (q ∙ sym (ap total (sizes-are ws e))))) refl refl)
         (λ q. omega arith)
 
-    entries : times * o .count ≡ times * word ws 5
-    unfolding opened
-    entries = ap (λ (x : Opened). times * x .count) e
+    entries : times * o .count ≡ times * block-count (network-in ws)
+    entries = ap (λ (n : ℕ). times * n) (count-is ws e)
 
     pub repeat-outputs : o .verdict .number ≡ 0 → length t ≡ total (o .sizes) → length outputs < times * o .count → Repeats ws t times outputs pointers (verdict 12 0) t outputs pointers
     repeat-outputs h l s =
         repeat-refused (verdict 12 0)
-        (repeat-tests true true false _ (eq-eqb (checked ws .number) 0 (fine ws t e h)) (eq-eqb (length t) (total (sizes-in ws)) (long ws t e l))
-        (lt-leb (times * word ws 5) (length outputs) (subst (λ (n : ℕ). length outputs < n) entries s)) refl)
+        (repeat-tests true true false _ (eq-eqb (checked ws .number) 0 (fine ws t e h)) (eq-eqb (length t) (total (network-in ws .sizes)) (long ws t e l))
+        (lt-leb (times * block-count (network-in ws)) (length outputs) (subst (λ (n : ℕ). length outputs < n) entries s)) refl)
         (λ q. omega arith)
 
     pub repeat-pointers : o .verdict .number ≡ 0 → length t ≡ total (o .sizes) → times * o .count ≤ length outputs → length pointers < times * o .count
         → Repeats ws t times outputs pointers (verdict 12 0) t outputs pointers
     repeat-pointers h l u s =
         repeat-refused (verdict 12 0)
-        (repeat-tests true true true false (eq-eqb (checked ws .number) 0 (fine ws t e h)) (eq-eqb (length t) (total (sizes-in ws)) (long ws t e l))
-        (le-leb (times * word ws 5) (length outputs) (subst (λ (n : ℕ). n ≤ length outputs) entries u))
-        (lt-leb (times * word ws 5) (length pointers) (subst (λ (n : ℕ). length pointers < n) entries s)))
+        (repeat-tests true true true false (eq-eqb (checked ws .number) 0 (fine ws t e h)) (eq-eqb (length t) (total (network-in ws .sizes)) (long ws t e l))
+        (le-leb (times * block-count (network-in ws)) (length outputs) (subst (λ (n : ℕ). n ≤ length outputs) entries u))
+        (lt-leb (times * block-count (network-in ws)) (length pointers) (subst (λ (n : ℕ). length pointers < n) entries s)))
         (λ q. omega arith)
 
     module _ (h : o .verdict .number ≡ 0) (l : length t ≡ total (o .sizes)) (u : times * o .count ≤ length outputs) (v : times * o .count ≤ length pointers) where
@@ -107,16 +106,16 @@ module _ (ws t : List ℕ) (times : ℕ) (outputs pointers : List ℕ) where
 
       taken : scans-verdict ws t times outputs pointers ≡ done
       taken =
-          repeat-tests true true true true (eq-eqb (checked ws .number) 0 (repeatable .accepted)) (eq-eqb (length t) (total (sizes-in ws)) (repeatable .exact))
-          (le-leb (times * word ws 5) (length outputs) (repeatable .outputs-room)) (le-leb (times * word ws 5) (length pointers) (repeatable .pointers-room))
+          repeat-tests true true true true (eq-eqb (checked ws .number) 0 (repeatable .accepted)) (eq-eqb (length t) (total (network-in ws .sizes)) (repeatable .exact))
+          (le-leb (times * block-count (network-in ws)) (length outputs) (repeatable .outputs-room)) (le-leb (times * block-count (network-in ws)) (length pointers) (repeatable .pointers-room))
 
-      pub repeats : {table packs marks : List ℕ} → Repeated ws times t outputs pointers table packs marks → Repeats ws t times outputs pointers done table packs marks
+      pub repeats : {table packs marks : List ℕ} → Repeated (network-in ws) times t outputs pointers table packs marks → Repeats ws t times outputs pointers done table packs marks
       unfolding scans-left scans-packed scans-marked
       repeats s = record {
         answers = sym taken;
-        leaves-one = s .table-after ∙ sym (ap (λ (x : Verdict). cond (eqb (x .number) 0) (scans-table ws t times) t) taken);
-        leaves-other = s .outputs-after ∙ sym (ap (λ (x : Verdict). cond (eqb (x .number) 0) (scans-outputs ws t times ++ drop (times * word ws 5) outputs) outputs) taken);
-        leaves-last = s .pointers-after ∙ sym (ap (λ (x : Verdict). cond (eqb (x .number) 0) (scans-pointers ws t times ++ drop (times * word ws 5) pointers) pointers) taken);
+        leaves-one = s .table-after ∙ sym (ap (λ (x : Verdict). cond (eqb (x .number) 0) (scans-table (network-in ws) t times) t) taken);
+        leaves-other = s .outputs-after ∙ sym (ap (λ (x : Verdict). cond (eqb (x .number) 0) (scans-outputs (network-in ws) t times ++ drop (times * block-count (network-in ws)) outputs) outputs) taken);
+        leaves-last = s .pointers-after ∙ sym (ap (λ (x : Verdict). cond (eqb (x .number) 0) (scans-pointers (network-in ws) t times ++ drop (times * block-count (network-in ws)) pointers) pointers) taken);
       }
 
 -- ---- one scan is one of several, with a list of 128 pointers
@@ -133,9 +132,9 @@ module _ (ws t outputs pointers : List ℕ) (most : length pointers ≡ 128) whe
 
       go : (fine : Bool) → eqb (checked ws .number) 0 ≡ fine → scans-verdict ws t 1 outputs pointers ≡ scan-verdict ws t outputs
       go true p =
-          let few = accepts-exactly ws .0 (eqb-true (checked ws .number) 0 p) .few in
-          repeat-tests ws t 1 outputs pointers true _ _ true p refl (ap (λ (n : ℕ). leb n (length outputs)) (one-mul (word ws 5))) (le-leb (1 * word ws 5) (length pointers) (omega (arith, few, most)))
-          ∙ ap (λ (b : Bool). cond (eqb (length t) (total (sizes-in ws)) && b) done (verdict 12 0)) (all-room (leb (word ws 5) (length outputs)))
+          let few = accepted-good ws (eqb-true (checked ws .number) 0 p) .few in
+          repeat-tests ws t 1 outputs pointers true _ _ true p refl (ap (λ (n : ℕ). leb n (length outputs)) (one-mul (block-count (network-in ws)))) (le-leb (1 * block-count (network-in ws)) (length pointers) (omega (arith, few, most)))
+          ∙ ap (λ (b : Bool). cond (eqb (length t) (total (network-in ws .sizes)) && b) done (verdict 12 0)) (all-room (leb (block-count (network-in ws)) (length outputs)))
           ∙ sym (by-tests ws t outputs true _ _ p refl refl)
       go false p = repeat-tests ws t 1 outputs pointers false _ _ _ p refl refl refl ∙ sym (by-tests ws t outputs false _ _ p refl refl)
 
@@ -144,9 +143,9 @@ module _ (ws t outputs pointers : List ℕ) (most : length pointers ≡ 128) whe
   one-scan s =
       record {
         answers = s .answers ∙ same-verdict;
-        leaves-one = s .leaves-one ∙ ap (λ (v : Verdict). cond (eqb (v .number) 0) (scanned ws t .table) t) same-verdict;
+        leaves-one = s .leaves-one ∙ ap (λ (v : Verdict). cond (eqb (v .number) 0) (scanned (network-in ws) t .table) t) same-verdict;
         leaves-other =
             s .leaves-other
             ∙ ap₂ (λ (p : List ℕ) (v : Verdict). cond (eqb (v .number) 0) p outputs)
-            (ap₂ (λ (p : List ℕ) (m : ℕ). p ++ drop m outputs) (append-nil (map packed (scanned ws t .outs))) (one-mul (word ws 5))) same-verdict;
+            (ap₂ (λ (p : List ℕ) (m : ℕ). p ++ drop m outputs) (append-nil (map packed (scanned (network-in ws) t .outs))) (one-mul (block-count (network-in ws)))) same-verdict;
       }

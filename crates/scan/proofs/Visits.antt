@@ -17,58 +17,57 @@ use Rattle.matrix.specs.Search.{differing, first-differing}
 use Rattle.matrix.specs.Pointer.{reset, in-range}
 use Rattle.matrix.proofs.Pointers.{size-right, steps as sized-steps}
 use Rattle.matrix.proofs.Runs.{run-at}
-use Rattle.network.specs.declared.sizes.Sizes.{Sizes}
 use Rattle.network.specs.declared.block.Block.{Block}
 use Rattle.network.specs.Table.{total, start-of}
-use Rattle.network.specs.Record.{word}
-use Rattle.network.specs.Check.{sizes-in}
-use Rattle.network.specs.Sound.{GoodBlock, Sound}
-use Rattle.network.specs.Kinds.{Compared}
-use Rattle.network.proofs.Accepted.{accepts-exactly}
-use Rattle.network.proofs.KindFacts.{accepted-means}
+use Rattle.network.specs.Network.{Network, block-of, block-count}
+use Rattle.network.specs.Sound.{GoodBlock}
+use Rattle.network.proofs.KindFacts.{Compared, accepted-means}
 use Rattle.blocks.specs.declared.Power.{Power}
+use Rattle.blocks.specs.declared.Outputs.{Outputs}
 use Rattle.blocks.specs.Kind.{kind-of}
 use Rattle.blocks.specs.View.{View, first-word, seen, view}
 use Rattle.blocks.specs.Effect.{Effect, idle, into, zeroed, found, compare, effect-of}
 use Rattle.blocks.specs.Work.{pointer-node, matrix-put, one-word, coil-put, coils-put, effect-on, outputs, block-outputs, block-table}
 use Rattle.blocks.proofs.Puts.{same-bit, word-below, word-inside, word-above, coil-word, coil-length, put-length}
-use Rattle.scan.specs.Input.{no-power, power-on}
+use Rattle.scan.specs.Input.{no-outputs, power-on}
 use Rattle.scan.specs.Scan.{State, step, scanned}
-use Rattle.scan.specs.Demand3.{block-of, visit, power-at, source-in, matrix-in, pointer-word, pointer-in, source, matrix, stepped, done-by, report, SameBits, Stretch}
+use Rattle.scan.specs.Demand3.{visit, power-at, source-in, matrix-in, pointer-word, pointer-in, source, matrix, stepped, done-by, report, SameBits, Stretch}
 use Rattle.scan.proofs.Kept.{exact-after}
-use Rattle.scan.proofs.Scanning.{after, after-next, outs-count}
+use Rattle.scan.proofs.Scanning.{after, after-next, after-all, outs-count}
 use Rattle.scan.proofs.Climb.{from, ends}
 use Rattle.scan.proofs.Climb.{found as finds}
 
 -- ---- the block's own output among the scan's
-abbrev own : List ℕ → List ℕ → ℕ → Power
-own ws t i =
-    block-outputs (sizes-in ws) (block-of ws i) (after ws t i .table)
-    (power-on (sizes-in ws) (after ws t i .table) (after ws t i .outs) (block-of ws i .inputs))
+abbrev own : Network → List ℕ → ℕ → Outputs
+own net t i =
+    block-outputs net (block-of net i) (after net t i .table)
+    (power-on net (after net t i .table) (after net t i .outs) (block-of net i .inputs))
 
-own-after : (ws t : List ℕ) (i r : ℕ) → getD (after ws t (suc i + r) .outs) i no-power ≡ own ws t i
+own-after : (net : Network) (t : List ℕ) (i r : ℕ) → suc i + r ≤ block-count net → getD (after net t (suc i + r) .outs) i no-outputs ≡ own net t i
 unfolding step
-own-after ws t i zero =
+own-after net t i zero u =
     let n : suc i + 0 ≡ suc i = omega arith in
-    let l : length (after ws t i .outs) ≡ i = outs-count ws t i in
-    let z : i ≡ length (after ws t i .outs) + 0 = omega (arith, l) in
-    ap (λ (k : ℕ). getD (after ws t k .outs) i no-power) n
-    ∙ ap (λ (s : State). getD (s .outs) i no-power) (after-next ws t i)
-    ∙ ap (λ (k : ℕ). getD (after ws t i .outs ++ own ws t i ∷ []) k no-power) z
-    ∙ getD-append-add (after ws t i .outs) (own ws t i ∷ []) 0 no-power
-own-after ws t i (suc r) =
+    let l : length (after net t i .outs) ≡ i = outs-count net t i (omega arith) in
+    let z : i ≡ length (after net t i .outs) + 0 = omega (arith, l) in
+    ap (λ (k : ℕ). getD (after net t k .outs) i no-outputs) n
+    ∙ ap (λ (s : State). getD (s .outs) i no-outputs) (after-next net t i (omega arith))
+    ∙ ap (λ (k : ℕ). getD (after net t i .outs ++ own net t i ∷ []) k no-outputs) z
+    ∙ getD-append-add (after net t i .outs) (own net t i ∷ []) 0 no-outputs
+own-after net t i (suc r) u =
     let n : suc i + suc r ≡ suc (suc i + r) = omega arith in
-    ap (λ (k : ℕ). getD (after ws t k .outs) i no-power) n
-    ∙ ap (λ (s : State). getD (s .outs) i no-power) (after-next ws t (suc i + r))
-    ∙ List·getD-append (after ws t (suc i + r) .outs) (own ws t (suc i + r) ∷ []) no-power i (omega (arith, outs-count ws t (suc i + r)))
-    ∙ own-after ws t i r
+    ap (λ (k : ℕ). getD (after net t k .outs) i no-outputs) n
+    ∙ ap (λ (s : State). getD (s .outs) i no-outputs) (after-next net t (suc i + r) (omega arith))
+    ∙ List·getD-append (after net t (suc i + r) .outs) (own net t (suc i + r) ∷ []) no-outputs i (omega (arith, outs-count net t (suc i + r) (omega arith)))
+    ∙ own-after net t i r (omega arith)
 
-own-output : (ws t : List ℕ) (i : ℕ) → i < word ws 5
-    → getD (scanned ws t .outs) i no-power ≡ block-outputs (sizes-in ws) (block-of ws i) (visit ws i t .table) (power-at ws i t)
+own-output : (net : Network) (t : List ℕ) (i : ℕ) → i < block-count net
+    → getD (scanned net t .outs) i no-outputs ≡ block-outputs net (block-of net i) (visit net i t .table) (power-at net i t)
 unfolding after
-own-output ws t i l =
-    let n : word ws 5 ≡ suc i + (word ws 5 - suc i) = omega (arith, l) in
-    ap (λ (k : ℕ). getD (after ws t k .outs) i no-power) n ∙ own-after ws t i (word ws 5 - suc i)
+own-output net t i l =
+    let n : block-count net ≡ suc i + (block-count net - suc i) = omega (arith, l) in
+    ap (λ (s : State). getD (s .outs) i no-outputs) (sym (after-all net t))
+    ∙ ap (λ (k : ℕ). getD (after net t k .outs) i no-outputs) n
+    ∙ own-after net t i (block-count net - suc i) (omega arith)
 
 -- ---- one word put
 module _ (t : List ℕ) (p x : ℕ) (h : p < length t) where
@@ -98,62 +97,56 @@ module _ (t : List ℕ) (p x : ℕ) (h : p < length t) where
       ∙ sym (run-at t s n (q / 16) (omega arith)))
 
 -- ---- a visit
-module _ {ws : List ℕ} {i m : ℕ} {given : ℕ → List ℕ} (S : Stretch ws i m given) where
-  z : Sizes
-  z = sizes-in ws
-
+module _ {net : Network} {i m : ℕ} {given : ℕ → List ℕ} (S : Stretch net i m given) where
   b : Block
-  b = block-of ws i
+  b = block-of net i
 
   n : ℕ
   n = b .n
 
   pw : ℕ
-  pw = pointer-word ws i
+  pw = pointer-word net i
 
-  sound : Sound ws
-  sound = accepts-exactly ws .0 (S .accepted)
+  good : GoodBlock (net .sizes) i b
+  unfolding b
+  good = S .accepted .blocks i (S .there)
 
-  good : GoodBlock z i b
-  unfolding z b
-  good = sound .blocks i (S .there)
+  facts : Compared (net .sizes) b
+  unfolding b
+  facts = accepted-means (net .sizes) i b good .compare (S .compares)
 
-  facts : Compared z b
-  unfolding z b
-  facts = accepted-means z i b good .compare (S .compares)
-
-  pub some-words : 1 ≤ block-of ws i .n
+  pub some-words : 1 ≤ block-of net i .n
   unfolding b
   some-words = facts .some
 
   module _ (j : ℕ) (h : j < m) where
     t : List ℕ
-    t = visit ws i (given j) .table
+    t = visit net i (given j) .table
 
     on : Power
-    on = power-at ws i (given j)
+    on = power-at net i (given j)
 
     q : ℕ
     q = getD t pw 0
 
     f : ℕ → Bool
-    f = differing (source ws i (given j)) (matrix ws i (given j))
+    f = differing (source net i (given j)) (matrix net i (given j))
 
     v : View
-    v = seen (source ws i (given j)) (matrix ws i (given j)) q
+    v = seen (source net i (given j)) (matrix net i (given j)) q
 
-    long : length t ≡ total z
-    unfolding t z
-    long = exact-after ws (given j) sound (S .right-size j h) i (omega (arith, S .there))
+    long : length t ≡ total (net .sizes)
+    unfolding t after
+    long = exact-after net (given j) (S .accepted) (S .right-size j h) i (omega (arith, S .there))
 
     -- the pointer stands in the table, after the coils
     pointer-inside : pw < length t
-    unfolding pw b z
+    unfolding pw b
     pointer-inside = omega (arith, long, facts .pointer-and-matrix)
 
-    after-coils : z .coils ≤ pw
-    unfolding pw z b start-of
-    after-coils = subst (λ (c : ℕ). z .coils ≤ start-of z c (b .middle .number)) (sym (facts .held)) (omega arith)
+    after-coils : net .sizes .coils ≤ pw
+    unfolding pw b start-of
+    after-coils = subst (λ (c : ℕ). net .sizes .coils ≤ start-of (net .sizes) c (b .middle .number)) (sym (facts .held)) (omega arith)
 
     -- the search starts at the pointer, which counts as 0 at the end or past it
     starts : in-range (into n q) .at ≡ from f (16 * n) q
@@ -163,32 +156,32 @@ module _ {ws : List ℕ} {i m : ℕ} {given : ℕ → List ℕ} (S : Stretch ws 
         (sized-steps (into n q) (cond (ltb q (16 * n)) q 0) (size-right (16 * n) (omega arith) (omega (arith, facts .some)) (omega (arith, facts .few))))
 
     -- what the block is to do
-    effect-is : effect-on z b t on ≡ found n v (finds f (16 * n) q)
-    unfolding z b n pw t on q f v kind-of view effect-of compare
+    effect-is : effect-on net b t on ≡ found n v (finds f (16 * n) q)
+    unfolding b n pw t on q f v kind-of view effect-of compare
     effect-is =
-        ap (λ (k : ℕ). effect-of (kind-of k) (eqb (pointer-node (kind-of k) b .class) 4) n (view (kind-of k) z b t) on) (S .compares)
-        ∙ ap (λ (c : ℕ). compare n (seen (source ws i (given j)) (matrix ws i (given j)) (cond (eqb c 9) (b .middle .number) q)) on) (facts .held)
+        ap (λ (k : ℕ). effect-of (kind-of k) (eqb (pointer-node (kind-of k) b .class) 4) n (view (kind-of k) net b t) on) (S .compares)
+        ∙ ap (λ (c : ℕ). compare n (seen (source net i (given j)) (matrix net i (given j)) (cond (eqb c 9) (b .middle .number) q)) on) (facts .held)
         ∙ ap (λ (a : Bool). cond a (found n v (first-differing (v .source) (v .destination) n (in-range (zeroed n v on) .at))) (idle (cond (on .middle) (some (zeroed n v on .at)) none))) (S .powered j h)
         ∙ ap (λ (a : Bool). found n v (first-differing (v .source) (v .destination) n (in-range (cond a (reset (into n q) 0) (into n q)) .at))) (S .not-reset j h)
         ∙ ap (λ (x : ℕ). found n v (first-differing (v .source) (v .destination) n x)) starts
 
     -- the words after the coils stay when the coils are written
-    coils-word : (out : Power) (u : List ℕ) → length u ≡ total z → getD (coils-put z (b .coils) out u) pw 0 ≡ getD u pw 0
+    coils-word : (out : Outputs) (u : List ℕ) → length u ≡ total (net .sizes) → getD (coils-put net (b .coils) out u) pw 0 ≡ getD u pw 0
     coils-word out u e =
-        let u₁ : List ℕ = coil-put z (b .coils .top) (out .top) u in
-        let u₂ : List ℕ = coil-put z (b .coils .middle) (out .middle) u₁ in
-        let l₀ : z .coils ≤ length u = omega (arith, e) in
-        let l₁ : z .coils ≤ length u₁ = omega (arith, l₀, coil-length z (b .coils .top) (out .top) u l₀) in
-        let l₂ : z .coils ≤ length u₂ = omega (arith, l₁, coil-length z (b .coils .middle) (out .middle) u₁ l₁) in
-        coil-word z (b .coils .bottom) (out .bottom) u₂ l₂ pw after-coils
-        ∙ coil-word z (b .coils .middle) (out .middle) u₁ l₁ pw after-coils
-        ∙ coil-word z (b .coils .top) (out .top) u l₀ pw after-coils
+        let u₁ : List ℕ = coil-put net (b .coils .top) (out .top) u in
+        let u₂ : List ℕ = coil-put net (b .coils .middle) (out .middle) u₁ in
+        let l₀ : net .sizes .coils ≤ length u = omega (arith, e) in
+        let l₁ : net .sizes .coils ≤ length u₁ = omega (arith, l₀, coil-length net (b .coils .top) (out .top) u l₀) in
+        let l₂ : net .sizes .coils ≤ length u₂ = omega (arith, l₁, coil-length net (b .coils .middle) (out .middle) u₁ l₁) in
+        coil-word net (b .coils .bottom) (out .bottom) u₂ l₂ pw after-coils
+        ∙ coil-word net (b .coils .middle) (out .middle) u₁ l₁ pw after-coils
+        ∙ coil-word net (b .coils .top) (out .top) u l₀ pw after-coils
 
     -- the table with a new pointer
     pointed : ℕ → List ℕ
     pointed x = placed t pw (x ∷ [])
 
-    pointed-long : (x : ℕ) → length (pointed x) ≡ total z
+    pointed-long : (x : ℕ) → length (pointed x) ≡ total (net .sizes)
     unfolding matrix-put pointed
     pointed-long x = put-length pw (some (x ∷ [])) t (λ y e. room y e) ∙ long
       where
@@ -209,15 +202,15 @@ module _ {ws : List ℕ} {i m : ℕ} {given : ℕ → List ℕ} (S : Stretch ws 
     found-here : Option ℕ
     found-here = finds f (16 * n) q
 
-    stepped-here : stepped ws i (given j) ≡ pointed (ends f (16 * n) found-here)
-    unfolding z b pw t on found-here
+    stepped-here : stepped net i (given j) ≡ pointed (ends f (16 * n) found-here)
+    unfolding b pw t on found-here
     stepped-here = ap (λ (e : Effect). matrix-put pw (one-word (e .pointer)) t) effect-is ∙ step-is found-here
 
-    done-pointer : getD (done-by ws i (given j)) pw 0 ≡ ends f (16 * n) found-here
-    unfolding z b pw t on block-table found-here pointed
+    done-pointer : getD (done-by net i (given j)) pw 0 ≡ ends f (16 * n) found-here
+    unfolding b pw t on block-table found-here pointed
     done-pointer =
-        ap₂ (λ (e : Effect) (k : ℕ). getD (coils-put z (b .coils) (outputs on e) (matrix-put (first-word z (pointer-node (kind-of k) b)) (one-word (e .pointer)) (matrix-put pw (e .destination) t))) pw 0) effect-is (S .compares)
-        ∙ ap (λ (u : List ℕ). getD (coils-put z (b .coils) (outputs on (found n v found-here)) u) pw 0) (stepped-is found-here)
+        ap₂ (λ (e : Effect) (k : ℕ). getD (coils-put net (b .coils) (outputs on e) (matrix-put (first-word net (pointer-node (kind-of k) b)) (one-word (e .pointer)) (matrix-put pw (e .destination) t))) pw 0) effect-is (S .compares)
+        ∙ ap (λ (u : List ℕ). getD (coils-put net (b .coils) (outputs on (found n v found-here)) u) pw 0) (stepped-is found-here)
         ∙ coils-word (outputs on (found n v found-here)) (pointed (ends f (16 * n) found-here)) (pointed-long (ends f (16 * n) found-here))
         ∙ put-there t pw (ends f (16 * n) found-here) pointer-inside
 
@@ -227,26 +220,26 @@ module _ {ws : List ℕ} {i m : ℕ} {given : ℕ → List ℕ} (S : Stretch ws 
     reported-is none = refl
     reported-is (some p) = refl
 
-    report-is : report ws i (given j) ≡ found-here
-    unfolding z b n pw t on block-outputs found-here
+    report-is : report net i (given j) ≡ found-here
+    unfolding b n pw t on block-outputs found-here
     report-is =
-        ap₂ (λ (out : Power) (x : ℕ). cond (out .middle) (some x) none) (own-output ws (given j) i (S .there)) done-pointer
+        ap₂ (λ (out : Outputs) (x : ℕ). cond (out .middle) (some x) none) (own-output net (given j) i (S .there)) done-pointer
         ∙ ap (λ (e : Effect). cond (e .middle) (some (ends f (16 * n) found-here)) none) effect-is
         ∙ reported-is found-here
 
     -- ---- what holds of the visit, in the words of demand 3
 
     pub visit-reports :
-        report ws i (given j)
-        ≡ finds (differing (source ws i (given j)) (matrix ws i (given j))) (16 * block-of ws i .n) (pointer-in ws i (visit ws i (given j) .table))
+        report net i (given j)
+        ≡ finds (differing (source net i (given j)) (matrix net i (given j))) (16 * block-of net i .n) (pointer-in net i (visit net i (given j) .table))
     unfolding b n pw t q f found-here
     visit-reports = report-is
 
     -- the next visit finds the pointer where this one left it
     pub next-pointer : suc j < m
-        → pointer-in ws i (visit ws i (given (suc j)) .table)
-        ≡ ends (differing (source ws i (given j)) (matrix ws i (given j))) (16 * block-of ws i .n)
-        (finds (differing (source ws i (given j)) (matrix ws i (given j))) (16 * block-of ws i .n) (pointer-in ws i (visit ws i (given j) .table)))
+        → pointer-in net i (visit net i (given (suc j)) .table)
+        ≡ ends (differing (source net i (given j)) (matrix net i (given j))) (16 * block-of net i .n)
+        (finds (differing (source net i (given j)) (matrix net i (given j))) (16 * block-of net i .n) (pointer-in net i (visit net i (given j) .table)))
     unfolding b n pw t q f found-here pointed
     next-pointer l =
         S .nothing-else .pointer-stays j l
@@ -254,15 +247,15 @@ module _ {ws : List ℕ} {i m : ℕ} {given : ℕ → List ℕ} (S : Stretch ws 
         ∙ put-there t pw (ends f (16 * n) found-here) pointer-inside
 
     -- and the same differences
-    pub next-differs : suc j < m → (p : ℕ) → 1 ≤ p → p ≤ 16 * block-of ws i .n
-        → differing (source ws i (given (suc j))) (matrix ws i (given (suc j))) p ≡ differing (source ws i (given j)) (matrix ws i (given j)) p
-    unfolding z b n pw t pointed
+    pub next-differs : suc j < m → (p : ℕ) → 1 ≤ p → p ≤ 16 * block-of net i .n
+        → differing (source net i (given (suc j))) (matrix net i (given (suc j))) p ≡ differing (source net i (given j)) (matrix net i (given j)) p
+    unfolding b n pw t pointed
     next-differs l p low high =
         let x : ℕ = ends f (16 * n) found-here in
         ap₂ xor
         (S .nothing-else .source-stays j l p low high
-        ∙ ap (λ (u : List ℕ). bit (source-in ws i u) p) stepped-here
-        ∙ same-run t pw x pointer-inside (first-word z (b .top)) n (S .source-leaves-out) p low high)
+        ∙ ap (λ (u : List ℕ). bit (source-in net i u) p) stepped-here
+        ∙ same-run t pw x pointer-inside (first-word net (b .top)) n (S .source-leaves-out) p low high)
         (S .nothing-else .matrix-stays j l p low high
-        ∙ ap (λ (u : List ℕ). bit (matrix-in ws i u) p) stepped-here
+        ∙ ap (λ (u : List ℕ). bit (matrix-in net i u) p) stepped-here
         ∙ same-run t pw x pointer-inside (pw + 1) n (inl (omega arith)) p low high)

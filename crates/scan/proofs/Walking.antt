@@ -11,19 +11,20 @@ use lib.Seq.{take-append-seam, drop-append-seam, set-append-seam}
 use Rattle.network.specs.declared.sizes.Sizes.{Sizes}
 use Rattle.network.specs.declared.block.Block.{Block}
 use Rattle.network.specs.Table.{total}
-use Rattle.network.specs.Record.{word, block-at}
-use Rattle.network.specs.Check.{sizes-in, block-start}
-use Rattle.network.specs.Sound.{Sound}
+use Rattle.network.specs.Network.{Network, areas-only, block-of, block-count}
+use Rattle.network.specs.Sound.{GoodNetwork}
 use Rattle.blocks.specs.declared.Power.{Power}
+use Rattle.blocks.specs.declared.Outputs.{Outputs}
 use Rattle.blocks.specs.Work.{block-outputs, block-table}
+use Rattle.blocks.proofs.Areas.{outputs-by-areas, table-by-areas}
 use Rattle.scan.specs.declared.located.Located.{Located}
-use Rattle.scan.specs.Input.{power-on}
-use Rattle.scan.specs.Scan.{State, step, steps, blocks-from, packed, unpacked}
+use Rattle.scan.specs.Input.{passes, power-on}
+use Rattle.scan.specs.Scan.{State, step, steps, scanned, packed, unpacked}
 use Rattle.scan.specs.Scans.{pointer-of, pointers-after, scans-table, scans-outputs, scans-pointers}
 use Rattle.scan.specs.Inner.{Next, Ran, power-of, located-at, Repeated}
 use Rattle.scan.proofs.Kept.{exact-after}
-use Rattle.scan.proofs.Wired.{all-unpacked}
-use Rattle.scan.proofs.Scanning.{after, after-next, outs-count, pointers-so-far, mark-next, marks-count}
+use Rattle.scan.proofs.Packing.{all-back}
+use Rattle.scan.proofs.Scanning.{after, pointers-so-far, after-next, mark-next, outs-count, marks-count, after-all, pointers-all}
 use Rattle.scan.proofs.Repeating.{table-next, outputs-next, pointers-next, outputs-count, pointers-count, scans-exact}
 
 -- ---- a list whose front is filled
@@ -47,43 +48,56 @@ module _ (front xs : List ℕ) (n : ℕ) (e : length front ≡ n) where
       ∙ set-append-seam front (rest .0) (drop (suc n) xs) w
       ∙ sym (append-assoc front (w ∷ []) (drop (suc n) xs))
 
+-- ---- what the code says of a block by the areas is true of it in the network
+by-areas : (net : Network) {one : Located} {first k : ℕ} {t packs marks table after marked : List ℕ}
+    → Ran (areas-only (net .sizes)) one first k t packs marks table after marked → Ran net one first k t packs marks table after marked
+unfolding passes pointer-of
+by-areas net {one} {first} {k} {t} {packs} r =
+    let on : Power = power-of net (one .block) t packs first k in
+    record {
+      table-after = r .table-after ∙ table-by-areas net (one .block) t on;
+      entry-after = r .entry-after ∙ ap (λ (out : Outputs). set packs (first + k) (packed out)) (outputs-by-areas net (one .block) t on);
+      mark-after = r .mark-after;
+    }
+
 -- ---- what j scans and k blocks of the next leave in front of the lists
-module _ (ws t : List ℕ) (j : ℕ) where
+module _ (net : Network) (t : List ℕ) (j : ℕ) where
   abbrev state : ℕ → State
-  state k = after ws (scans-table ws t j) k
+  state k = after net (scans-table net t j) k
 
   abbrev packs-front : ℕ → List ℕ
-  packs-front k = scans-outputs ws t j ++ map packed (state k .outs)
+  packs-front k = scans-outputs net t j ++ map packed (state k .outs)
 
   abbrev marks-front : ℕ → List ℕ
-  marks-front k = scans-pointers ws t j ++ pointers-so-far ws (scans-table ws t j) k
+  marks-front k = scans-pointers net t j ++ pointers-so-far net (scans-table net t j) k
 
-  outs-long : (k : ℕ) → length (map packed (state k .outs)) ≡ k
-  outs-long k = length-map (state k .outs) packed ∙ outs-count ws (scans-table ws t j) k
+  module _ (k : ℕ) (l : k ≤ block-count net) where
+    outs-long : length (map packed (state k .outs)) ≡ k
+    outs-long = length-map (state k .outs) packed ∙ outs-count net (scans-table net t j) k l
 
-  packs-front-long : (k : ℕ) → length (packs-front k) ≡ j * word ws 5 + k
-  packs-front-long k = length-append (scans-outputs ws t j) (map packed (state k .outs)) ∙ ap₂ _+_ (outputs-count ws j t) (outs-long k)
+    packs-front-long : length (packs-front k) ≡ j * block-count net + k
+    packs-front-long = length-append (scans-outputs net t j) (map packed (state k .outs)) ∙ ap₂ _+_ (outputs-count net j t) outs-long
 
-  marks-front-long : (k : ℕ) → length (marks-front k) ≡ j * word ws 5 + k
-  marks-front-long k =
-      length-append (scans-pointers ws t j) (pointers-so-far ws (scans-table ws t j) k)
-      ∙ ap₂ _+_ (pointers-count ws j t) (marks-count ws (scans-table ws t j) k)
+    marks-front-long : length (marks-front k) ≡ j * block-count net + k
+    marks-front-long =
+        length-append (scans-pointers net t j) (pointers-so-far net (scans-table net t j) k)
+        ∙ ap₂ _+_ (pointers-count net j t) (marks-count net (scans-table net t j) k l)
 
 -- ---- what holds after j scans and k blocks
-pub record SoFar (ws t outputs pointers : List ℕ) (j k : ℕ) (table packs marks : List ℕ) : Type 0 where
-  pub sound : Sound ws
-  pub exact : length t ≡ total (sizes-in ws)
-  pub count : k ≤ word ws 5
-  pub table-so-far : table ≡ state ws t j k .table
-  pub packs-so-far : packs ≡ packs-front ws t j k ++ drop (j * word ws 5 + k) outputs
-  pub marks-so-far : marks ≡ marks-front ws t j k ++ drop (j * word ws 5 + k) pointers
+pub record SoFar (net : Network) (t outputs pointers : List ℕ) (j k : ℕ) (table packs marks : List ℕ) : Type 0 where
+  pub good : GoodNetwork net
+  pub exact : length t ≡ total (net .sizes)
+  pub count : k ≤ block-count net
+  pub table-so-far : table ≡ state net t j k .table
+  pub packs-so-far : packs ≡ packs-front net t j k ++ drop (j * block-count net + k) outputs
+  pub marks-so-far : marks ≡ marks-front net t j k ++ drop (j * block-count net + k) pointers
 
-pub none-run : {ws t outputs pointers : List ℕ} → Sound ws → length t ≡ total (sizes-in ws) → SoFar ws t outputs pointers 0 0 t outputs pointers
-unfolding after steps blocks-from pointers-so-far pointers-after scans-table scans-outputs scans-pointers
-none-run {ws} {t} {outputs} {pointers} s e =
-    let n : 0 * word ws 5 + 0 ≡ 0 = omega arith in
+pub none-run : {net : Network} {t outputs pointers : List ℕ} → GoodNetwork net → length t ≡ total (net .sizes) → SoFar net t outputs pointers 0 0 t outputs pointers
+unfolding after steps pointers-so-far pointers-after scans-table scans-outputs scans-pointers
+none-run {net} {t} {outputs} {pointers} g e =
+    let n : 0 * block-count net + 0 ≡ 0 = omega arith in
     record {
-      sound = s;
+      good = g;
       exact = e;
       count = omega arith;
       table-so-far = refl;
@@ -91,102 +105,101 @@ none-run {ws} {t} {outputs} {pointers} s e =
       marks-so-far = ap (λ (m : ℕ). drop m pointers) (sym n);
     }
 
-module _ {ws t outputs pointers : List ℕ} {j k : ℕ} {table packs marks : List ℕ} (h : SoFar ws t outputs pointers j k table packs marks) where
-  table-exact : length table ≡ total (sizes-in ws)
-  unfolding after
-  table-exact = ap length (h .table-so-far) ∙ exact-after ws (scans-table ws t j) (h .sound) (scans-exact ws (h .sound) j t (h .exact)) k (h .count)
+module _ {net : Network} {t outputs pointers : List ℕ} {j k : ℕ} {table packs marks : List ℕ} (h : SoFar net t outputs pointers j k table packs marks) where
+  table-exact : length table ≡ total (net .sizes)
+  table-exact = ap length (h .table-so-far) ∙ exact-after net (scans-table net t j) (h .good) (scans-exact net (h .good) j t (h .exact)) k (h .count)
 
   pub table-long : length table ≡ length t
   table-long = table-exact ∙ sym (h .exact)
 
-  pub packs-long : j * word ws 5 + k ≤ length outputs → length packs ≡ length outputs
-  packs-long l = ap length (h .packs-so-far) ∙ long (packs-front ws t j k) outputs (j * word ws 5 + k) (packs-front-long ws t j k) l
+  pub packs-long : j * block-count net + k ≤ length outputs → length packs ≡ length outputs
+  packs-long l = ap length (h .packs-so-far) ∙ long (packs-front net t j k) outputs (j * block-count net + k) (packs-front-long net t j k (h .count)) l
 
-  pub marks-long : j * word ws 5 + k ≤ length pointers → length marks ≡ length pointers
-  marks-long l = ap length (h .marks-so-far) ∙ long (marks-front ws t j k) pointers (j * word ws 5 + k) (marks-front-long ws t j k) l
+  pub marks-long : j * block-count net + k ≤ length pointers → length marks ≡ length pointers
+  marks-long l = ap length (h .marks-so-far) ∙ long (marks-front net t j k) pointers (j * block-count net + k) (marks-front-long net t j k (h .count)) l
 
   -- the outputs of this scan's earlier blocks
-  earlier : take k (drop (j * word ws 5) packs) ≡ map packed (state ws t j k .outs)
+  earlier : take k (drop (j * block-count net) packs) ≡ map packed (state net t j k .outs)
   earlier =
-      let before = scans-outputs ws t j in
-      let outs = map packed (state ws t j k .outs) in
-      let rest = drop (j * word ws 5 + k) outputs in
-      ap (λ (p : List ℕ). take k (drop (j * word ws 5) p)) (h .packs-so-far ∙ append-assoc before outs rest)
-      ∙ ap (λ (n : ℕ). take k (drop n (before ++ (outs ++ rest)))) (sym (outputs-count ws j t))
+      let before = scans-outputs net t j in
+      let outs = map packed (state net t j k .outs) in
+      let rest = drop (j * block-count net + k) outputs in
+      ap (λ (p : List ℕ). take k (drop (j * block-count net) p)) (h .packs-so-far ∙ append-assoc before outs rest)
+      ∙ ap (λ (n : ℕ). take k (drop n (before ++ (outs ++ rest)))) (sym (outputs-count net j t))
       ∙ ap (take k) (drop-append-seam before (outs ++ rest))
-      ∙ ap (λ (n : ℕ). take n (outs ++ rest)) (sym (outs-long ws t j k))
+      ∙ ap (λ (n : ℕ). take n (outs ++ rest)) (sym (outs-long net t j k (h .count)))
       ∙ take-append-seam outs rest
 
   -- ---- one block more
-  module _ (l : k < word ws 5) (u : j * word ws 5 + word ws 5 ≤ length outputs) (v : j * word ws 5 + word ws 5 ≤ length pointers) where
+  module _ (l : k < block-count net) (u : j * block-count net + block-count net ≤ length outputs) (v : j * block-count net + block-count net ≤ length pointers) where
     block : Block
-    block = block-at ws (block-start k)
+    block = block-of net k
 
-    next-here : Next (sizes-in ws) (located-at ws k) table packs marks (j * word ws 5) k
+    next-here : Next (areas-only (net .sizes)) (located-at net k) table packs marks (j * block-count net) k
     next-here = record {
-      runs = record { good = h .sound .blocks k l; exact = table-exact };
+      runs = record { good = h .good .blocks k l; exact = table-exact };
       lies = record { top-word = refl; middle-word = refl };
-      few-coils = h .sound .coils;
-      few-discretes = h .sound .discretes;
+      few-coils = h .good .areas .coils;
+      few-discretes = h .good .areas .discretes;
       entry = omega (arith, l, u, packs-long (omega (arith, l, u)));
       mark-entry = omega (arith, l, v, marks-long (omega (arith, l, v)));
     }
 
     -- its inputs pass the power of the definition
     on : Power
-    on = power-on (sizes-in ws) (state ws t j k .table) (state ws t j k .outs) (block .inputs)
+    on = power-on net (state net t j k .table) (state net t j k .outs) (block .inputs)
 
-    power-same : power-of (sizes-in ws) block table packs (j * word ws 5) k ≡ on
+    power-same : power-of net block table packs (j * block-count net) k ≡ on
     unfolding block on
     power-same =
-        ap₂ (λ (x : List ℕ) (os : List Power). power-on (sizes-in ws) x os (block .inputs)) (h .table-so-far)
-        (ap (map unpacked) earlier ∙ all-unpacked (state ws t j k .outs))
+        ap₂ (λ (x : List ℕ) (os : List Outputs). power-on net x os (block .inputs)) (h .table-so-far)
+        (ap (map unpacked) earlier ∙ all-back (state net t j k .outs))
 
-    out : Power
-    out = block-outputs (sizes-in ws) block (state ws t j k .table) on
+    out : Outputs
+    out = block-outputs net block (state net t j k .table) on
 
     module _ {table-then packs-then marks-then : List ℕ}
-        (r : Ran (sizes-in ws) (located-at ws k) (j * word ws 5) k table packs marks table-then packs-then marks-then) where
-      table-more : table-then ≡ state ws t j (suc k) .table
+        (r : Ran net (located-at net k) (j * block-count net) k table packs marks table-then packs-then marks-then) where
+      table-more : table-then ≡ state net t j (suc k) .table
       unfolding block on step
       table-more =
           r .table-after
-          ∙ ap₂ (block-table (sizes-in ws) block) (h .table-so-far) power-same
-          ∙ sym (ap (λ (s : State). s .table) (after-next ws (scans-table ws t j) k))
+          ∙ ap₂ (block-table net block) (h .table-so-far) power-same
+          ∙ sym (ap (λ (s : State). s .table) (after-next net (scans-table net t j) k l))
 
-      next-entry : suc (j * word ws 5 + k) ≡ j * word ws 5 + suc k
+      next-entry : suc (j * block-count net + k) ≡ j * block-count net + suc k
       next-entry = omega arith
 
-      packs-more : packs-then ≡ packs-front ws t j (suc k) ++ drop (j * word ws 5 + suc k) outputs
+      packs-more : packs-then ≡ packs-front net t j (suc k) ++ drop (j * block-count net + suc k) outputs
       unfolding block on out step
       packs-more =
           r .entry-after
-          ∙ ap₂ (λ (x : List ℕ) (p : Power). set packs (j * word ws 5 + k) (packed (block-outputs (sizes-in ws) block x p))) (h .table-so-far) power-same
-          ∙ ap (λ (p : List ℕ). set p (j * word ws 5 + k) (packed out)) (h .packs-so-far)
-          ∙ stored (packs-front ws t j k) outputs (j * word ws 5 + k) (packs-front-long ws t j k) (packed out) (omega (arith, l, u))
+          ∙ ap₂ (λ (x : List ℕ) (p : Power). set packs (j * block-count net + k) (packed (block-outputs net block x p))) (h .table-so-far) power-same
+          ∙ ap (λ (p : List ℕ). set p (j * block-count net + k) (packed out)) (h .packs-so-far)
+          ∙ stored (packs-front net t j k) outputs (j * block-count net + k) (packs-front-long net t j k (h .count)) (packed out) (omega (arith, l, u))
           ∙ ap₂ (λ (p : List ℕ) (n : ℕ). p ++ drop n outputs)
-          (append-assoc (scans-outputs ws t j) (map packed (state ws t j k .outs)) (packed out ∷ [])
-          ∙ ap (λ (p : List ℕ). scans-outputs ws t j ++ p)
-          (sym (map-append packed (state ws t j k .outs) (out ∷ [])) ∙ ap (λ (s : State). map packed (s .outs)) (sym (after-next ws (scans-table ws t j) k))))
+          (append-assoc (scans-outputs net t j) (map packed (state net t j k .outs)) (packed out ∷ [])
+          ∙ ap (λ (p : List ℕ). scans-outputs net t j ++ p)
+          (sym (map-append packed (state net t j k .outs) (out ∷ [])) ∙ ap (λ (s : State). map packed (s .outs)) (sym (after-next net (scans-table net t j) k l))))
           next-entry
 
       mark : ℕ
-      mark = pointer-of (sizes-in ws) block (state ws t j (suc k) .table)
+      mark = pointer-of net block (state net t j (suc k) .table)
 
-      marks-more : marks-then ≡ marks-front ws t j (suc k) ++ drop (j * word ws 5 + suc k) pointers
+      marks-more : marks-then ≡ marks-front net t j (suc k) ++ drop (j * block-count net + suc k) pointers
       unfolding block mark
       marks-more =
           r .mark-after
-          ∙ ap₂ (λ (x p : List ℕ). set p (j * word ws 5 + k) (pointer-of (sizes-in ws) block x)) table-more (h .marks-so-far)
-          ∙ stored (marks-front ws t j k) pointers (j * word ws 5 + k) (marks-front-long ws t j k) mark (omega (arith, l, v))
+          ∙ ap₂ (λ (x p : List ℕ). set p (j * block-count net + k) (pointer-of net block x)) table-more (h .marks-so-far)
+          ∙ stored (marks-front net t j k) pointers (j * block-count net + k) (marks-front-long net t j k (h .count)) mark (omega (arith, l, v))
           ∙ ap₂ (λ (p : List ℕ) (n : ℕ). p ++ drop n pointers)
-          (append-assoc (scans-pointers ws t j) (pointers-so-far ws (scans-table ws t j) k) (mark ∷ [])
-          ∙ ap (λ (p : List ℕ). scans-pointers ws t j ++ p) (sym (mark-next ws (scans-table ws t j) k)))
+          (append-assoc (scans-pointers net t j) (pointers-so-far net (scans-table net t j) k) (mark ∷ [])
+          ∙ ap (λ (p : List ℕ). scans-pointers net t j ++ p) (sym (mark-next net (scans-table net t j) k l)))
           next-entry
 
-      more : SoFar ws t outputs pointers j (k + 1) table-then packs-then marks-then
-      more = subst (λ (n : ℕ). SoFar ws t outputs pointers j n table-then packs-then marks-then) (sym (add-one k)) (record {
-        sound = h .sound;
+      more : SoFar net t outputs pointers j (k + 1) table-then packs-then marks-then
+      more = subst (λ (n : ℕ). SoFar net t outputs pointers j n table-then packs-then marks-then) (sym (add-one k)) (record {
+        good = h .good;
         exact = h .exact;
         count = omega (arith, l);
         table-so-far = table-more;
@@ -195,62 +208,63 @@ module _ {ws t outputs pointers : List ℕ} {j k : ℕ} {table packs marks : Lis
       })
 
     -- by what the code has for its sizes, its record and its first entry
-    module _ {z : Sizes} (p : z ≡ sizes-in ws) {one : Located} (q : one ≡ located-at ws k) {first : ℕ} (e : first ≡ j * word ws 5) where
-      pub next-ready : Next z one table packs marks first k
+    module _ {z : Sizes} (p : z ≡ net .sizes) {one : Located} (q : one ≡ located-at net k) {first : ℕ} (e : first ≡ j * block-count net) where
+      pub next-ready : Next (areas-only z) one table packs marks first k
       next-ready =
-          subst (λ (y : Sizes). Next y one table packs marks first k) (sym p)
-          (subst (λ (x : Located). Next (sizes-in ws) x table packs marks first k) (sym q)
-          (subst (λ (n : ℕ). Next (sizes-in ws) (located-at ws k) table packs marks n k) (sym e) next-here))
+          subst (λ (y : Sizes). Next (areas-only y) one table packs marks first k) (sym p)
+          (subst (λ (x : Located). Next (areas-only (net .sizes)) x table packs marks first k) (sym q)
+          (subst (λ (n : ℕ). Next (areas-only (net .sizes)) (located-at net k) table packs marks n k) (sym e) next-here))
 
-      pub one-more : {table-then packs-then marks-then : List ℕ} → Ran z one first k table packs marks table-then packs-then marks-then
-          → SoFar ws t outputs pointers j (k + 1) table-then packs-then marks-then
+      pub one-more : {table-then packs-then marks-then : List ℕ} → Ran (areas-only z) one first k table packs marks table-then packs-then marks-then
+          → SoFar net t outputs pointers j (k + 1) table-then packs-then marks-then
       one-more {table-then} {packs-then} {marks-then} r =
           more
-          (subst (λ (n : ℕ). Ran (sizes-in ws) (located-at ws k) n k table packs marks table-then packs-then marks-then) e
-          (subst (λ (x : Located). Ran (sizes-in ws) x first k table packs marks table-then packs-then marks-then) q
-          (subst (λ (y : Sizes). Ran y one first k table packs marks table-then packs-then marks-then) p r)))
+          (subst (λ (n : ℕ). Ran net (located-at net k) n k table packs marks table-then packs-then marks-then) e
+          (subst (λ (x : Located). Ran net x first k table packs marks table-then packs-then marks-then) q
+          (by-areas net (subst (λ (y : Sizes). Ran (areas-only y) one first k table packs marks table-then packs-then marks-then) p r))))
 
   -- ---- one scan more
-  pub scan-done : word ws 5 ≤ k → SoFar ws t outputs pointers (j + 1) 0 table packs marks
-  unfolding after steps blocks-from pointers-so-far pointers-after
+  pub scan-done : block-count net ≤ k → SoFar net t outputs pointers (j + 1) 0 table packs marks
+  unfolding after steps pointers-so-far pointers-after
   scan-done l =
-      let e : k ≡ word ws 5 = omega (arith, l, h .count) in
-      let n : j * word ws 5 + k ≡ suc j * word ws 5 + 0 = omega (arith, e, suc-mul j (word ws 5)) in
-      subst (λ (i : ℕ). SoFar ws t outputs pointers i 0 table packs marks) (sym (add-one j)) (record {
-        sound = h .sound;
+      let e : k ≡ block-count net = omega (arith, l, h .count) in
+      let all : state net t j k ≡ scanned net (scans-table net t j) = ap (state net t j) e ∙ after-all net (scans-table net t j) in
+      let n : j * block-count net + k ≡ suc j * block-count net + 0 = omega (arith, e, suc-mul j (block-count net)) in
+      subst (λ (i : ℕ). SoFar net t outputs pointers i 0 table packs marks) (sym (add-one j)) (record {
+        good = h .good;
         exact = h .exact;
         count = omega arith;
-        table-so-far = h .table-so-far ∙ ap (λ (m : ℕ). state ws t j m .table) e ∙ sym (table-next ws j t);
+        table-so-far = h .table-so-far ∙ ap (λ (s : State). s .table) all ∙ sym (table-next net j t);
         packs-so-far =
             h .packs-so-far
             ∙ ap₂ (λ (p : List ℕ) (m : ℕ). p ++ drop m outputs)
-            (ap (packs-front ws t j) e ∙ sym (outputs-next ws j t) ∙ sym (append-nil (scans-outputs ws t (suc j)))) n;
+            (ap (λ (s : State). scans-outputs net t j ++ map packed (s .outs)) all ∙ sym (outputs-next net j t) ∙ sym (append-nil (scans-outputs net t (suc j)))) n;
         marks-so-far =
             h .marks-so-far
             ∙ ap₂ (λ (p : List ℕ) (m : ℕ). p ++ drop m pointers)
-            (ap (marks-front ws t j) e ∙ sym (pointers-next ws j t) ∙ sym (append-nil (scans-pointers ws t (suc j)))) n;
+            (ap (marks-front net t j) e ∙ ap (λ (p : List ℕ). scans-pointers net t j ++ p) (pointers-all net (scans-table net t j)) ∙ sym (pointers-next net j t) ∙ sym (append-nil (scans-pointers net t (suc j)))) n;
       })
 
 -- from wherever a scan started, k of its blocks lead on
-abbrev pub Onward : List ℕ → ℕ → List ℕ → List ℕ → List ℕ → ℕ → List ℕ → List ℕ → List ℕ → Type 0
-Onward ws j table₀ packs₀ marks₀ k table packs marks =
-    (t outputs pointers : List ℕ) → j * word ws 5 + word ws 5 ≤ length outputs → j * word ws 5 + word ws 5 ≤ length pointers
-    → SoFar ws t outputs pointers j 0 table₀ packs₀ marks₀ → SoFar ws t outputs pointers j k table packs marks
+abbrev pub Onward : Network → ℕ → List ℕ → List ℕ → List ℕ → ℕ → List ℕ → List ℕ → List ℕ → Type 0
+Onward net j table₀ packs₀ marks₀ k table packs marks =
+    (t outputs pointers : List ℕ) → j * block-count net + block-count net ≤ length outputs → j * block-count net + block-count net ≤ length pointers
+    → SoFar net t outputs pointers j 0 table₀ packs₀ marks₀ → SoFar net t outputs pointers j k table packs marks
 
 -- after the last scan
-pub all-run : {ws t outputs pointers : List ℕ} {j : ℕ} {table packs marks : List ℕ} → SoFar ws t outputs pointers j 0 table packs marks
-    → {times : ℕ} → j ≡ times → Repeated ws times t outputs pointers table packs marks
-unfolding after steps blocks-from pointers-so-far pointers-after
-all-run {ws} {t} {outputs} {pointers} {j} h e =
-    let n : j * word ws 5 + 0 ≡ j * word ws 5 = omega arith in
+pub all-run : {net : Network} {t outputs pointers : List ℕ} {j : ℕ} {table packs marks : List ℕ} → SoFar net t outputs pointers j 0 table packs marks
+    → {times : ℕ} → j ≡ times → Repeated net times t outputs pointers table packs marks
+unfolding after steps pointers-so-far pointers-after
+all-run {net} {t} {outputs} {pointers} {j} h e =
+    let n : j * block-count net + 0 ≡ j * block-count net = omega arith in
     record {
-      table-after = h .table-so-far ∙ ap (scans-table ws t) e;
+      table-after = h .table-so-far ∙ ap (scans-table net t) e;
       outputs-after =
           h .packs-so-far
-          ∙ ap₂ (λ (p : List ℕ) (m : ℕ). p ++ drop m outputs) (append-nil (scans-outputs ws t j)) n
-          ∙ ap (λ (i : ℕ). scans-outputs ws t i ++ drop (i * word ws 5) outputs) e;
+          ∙ ap₂ (λ (p : List ℕ) (m : ℕ). p ++ drop m outputs) (append-nil (scans-outputs net t j)) n
+          ∙ ap (λ (i : ℕ). scans-outputs net t i ++ drop (i * block-count net) outputs) e;
       pointers-after =
           h .marks-so-far
-          ∙ ap₂ (λ (p : List ℕ) (m : ℕ). p ++ drop m pointers) (append-nil (scans-pointers ws t j)) n
-          ∙ ap (λ (i : ℕ). scans-pointers ws t i ++ drop (i * word ws 5) pointers) e;
+          ∙ ap₂ (λ (p : List ℕ) (m : ℕ). p ++ drop m pointers) (append-nil (scans-pointers net t j)) n
+          ∙ ap (λ (i : ℕ). scans-pointers net t i ++ drop (i * block-count net) pointers) e;
     }

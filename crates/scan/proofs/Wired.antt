@@ -1,5 +1,5 @@
--- The laws of inputs: contacts that lie in the table, an input by its code, and outputs that are packed. Assumes nothing.
-use mathlib.Core.Path.{_≡_, refl, sym, ap, ap₂, _∙_, subst}
+-- The laws of inputs: contacts that lie in the table, an input by its code, and outputs that were packed. Assumes nothing.
+use mathlib.Core.Path.{_≡_, refl, sym, ap, _∙_, subst}
 use mathlib.Core.Bool.{Bool, true, false, not, cond}
 use mathlib.Core.List.{List, [], _∷_, map}
 use Prim.Native.Nat.{ℕ, zero, suc, _+_, _-_, _*_, _≤_, _<_}
@@ -12,11 +12,12 @@ use Rattle.matrix.specs.Run.{longest}
 use Rattle.matrix.specs.Inner.{Accepted}
 use Rattle.network.specs.declared.sizes.Sizes.{Sizes}
 use Rattle.network.specs.declared.block.Input.{Input}
+use Rattle.network.specs.Network.{Network}
 use Rattle.network.specs.Sound.{GoodInput}
-use Rattle.blocks.specs.declared.Power.{Power}
+use Rattle.blocks.specs.declared.Outputs.{Outputs}
 use Rattle.scan.specs.declared.located.Located.{Located}
-use Rattle.scan.specs.Input.{coil, discrete-input, no-power, of-block, passes}
-use Rattle.scan.specs.Scan.{packed, unpacked}
+use Rattle.scan.specs.Input.{coil, discrete-input, no-outputs, of-block, passes}
+use Rattle.scan.specs.Scan.{unpacked}
 use Rattle.scan.specs.Inner.{Contacts, GoodInputs, Next}
 
 -- ---- contacts
@@ -46,37 +47,37 @@ module _ (z : Sizes) (t : List ℕ) (earlier : ℕ) (input : Input) (h : Contact
       )
 
 -- what the next block needs for its inputs and its work
-module _ (z : Sizes) (one : Located) (t packs marks : List ℕ) (first k : ℕ) (h : Next z one t packs marks first k) where
-  pub next-contacts : Contacts z t
+module _ (net : Network) (one : Located) (t packs marks : List ℕ) (first k : ℕ) (h : Next net one t packs marks first k) where
+  pub next-contacts : Contacts (net .sizes) t
   next-contacts = record { few-coils = h .few-coils; few-discretes = h .few-discretes; inside = omega (arith, h .runs .exact) }
 
   -- the part of the list from the first entry on is as long as there are earlier blocks
-  pub next-inputs : {m : ℕ} → m ≡ k → GoodInputs z (length (take m (drop first packs))) (one .block .inputs)
+  pub next-inputs : {m : ℕ} → m ≡ k → GoodInputs (net .sizes) (length (take m (drop first packs))) (one .block .inputs)
   next-inputs {m} e =
       let long = length-take-le m (drop first packs) (omega (arith, h .entry, length-drop first packs, e)) in
-      subst (λ (n : ℕ). GoodInputs z n (one .block .inputs)) (sym (long ∙ e)) (record {
+      subst (λ (n : ℕ). GoodInputs (net .sizes) n (one .block .inputs)) (sym (long ∙ e)) (record {
         top-input = h .runs .good .top-input;
         middle-input = h .runs .good .middle-input;
         bottom-input = h .runs .good .bottom-input;
       })
 
 -- ---- an input by its code
-unfoldable pub by-code : Sizes → List ℕ → List Power → ℕ → ℕ → Bool
-by-code z t outs number code =
+unfoldable pub by-code : Network → List ℕ → List Outputs → ℕ → ℕ → Bool
+by-code net t outs number code =
     cond (eqb code 0) false
     (cond (eqb code 1) true
-    (cond (eqb code 2) (coil z t number)
-    (cond (eqb code 3) (not (coil z t number))
-    (cond (eqb code 4) (discrete-input z t number)
-    (cond (eqb code 5) (not (discrete-input z t number))
+    (cond (eqb code 2) (coil net t number)
+    (cond (eqb code 3) (not (coil net t number))
+    (cond (eqb code 4) (discrete-input net t number)
+    (cond (eqb code 5) (not (discrete-input net t number))
     (cond (eqb code 6) (of-block outs number .top)
     (cond (eqb code 7) (of-block outs number .middle)
     (of-block outs number .bottom))))))))
 
-pub code-is : (z : Sizes) (t : List ℕ) (outs : List Power) (input : Input) (code : ℕ) → input .code ≡ code
-    → by-code z t outs (input .number) code ≡ passes z t outs input
+pub code-is : (net : Network) (t : List ℕ) (outs : List Outputs) (input : Input) (code : ℕ) → input .code ≡ code
+    → by-code net t outs (input .number) code ≡ passes net t outs input
 unfolding by-code passes
-code-is z t outs input code e = ap (by-code z t outs (input .number)) (sym e)
+code-is net t outs input code e = ap (by-code net t outs (input .number)) (sym e)
 
 -- a code that is none of 0 to 7 is 8
 above : (k m : ℕ) → m ≤ k → (k ≡ m → ⊥) → m + 1 ≤ k
@@ -92,7 +93,7 @@ code-eight k u a b c d e f g h = equal k u (above k 7 (above k 6 (above k 5 (abo
     equal k u l = omega arith
 
 -- ---- packed outputs
-unpacked-at : (packs : List ℕ) (i : ℕ) → getD (map unpacked packs) i no-power ≡ unpacked (getD packs i 0)
+pub unpacked-at : (packs : List ℕ) (i : ℕ) → getD (map unpacked packs) i no-outputs ≡ unpacked (getD packs i 0)
 unfolding bit
 unpacked-at [] i = refl
 unpacked-at (w ∷ packs) zero = refl
@@ -100,25 +101,3 @@ unpacked-at (w ∷ packs) (suc i) = unpacked-at packs i
 
 pub block-unpacked : (packs : List ℕ) (number : ℕ) → of-block (map unpacked packs) number ≡ unpacked (getD packs (number - 1) 0)
 block-unpacked packs number = unpacked-at packs (number - 1)
-
--- what is packed is unpacked again
-pub unpacked-packed : (out : Power) → unpacked (packed out) ≡ out
-unfolding bit
-unpacked-packed out = go (out .top) (out .middle) (out .bottom)
-  where
-    of : Bool → Bool → Bool → Power
-    of a b c = record { top = a; middle = b; bottom = c }
-
-    go : (a b c : Bool) → unpacked (packed (of a b c)) ≡ of a b c
-    go true true true = refl
-    go true true false = refl
-    go true false true = refl
-    go true false false = refl
-    go false true true = refl
-    go false true false = refl
-    go false false true = refl
-    go false false false = refl
-
-pub all-unpacked : (outs : List Power) → map unpacked (map packed outs) ≡ outs
-all-unpacked [] = refl
-all-unpacked (out ∷ outs) = ap₂ (λ (o : Power) (os : List Power). o ∷ os) (unpacked-packed out) (all-unpacked outs)

@@ -1,8 +1,8 @@
 -- Demand 3 at work, computed: networks that meet its premises, with what they report; and for each of its last premises a network
 -- that meets the others and breaks the conclusion. Assumes nothing.
-use mathlib.Core.Path.{_≡_, refl}
+use mathlib.Core.Path.{_≡_, refl, ap, subst}
 use mathlib.Core.Bool.{xor}
-use mathlib.Core.List.{List, [], _∷_, _++_}
+use mathlib.Core.List.{List, [], _∷_, flatMap}
 use mathlib.Core.Logic.{inr}
 use mathlib.Core.Option.{Option, none, some}
 use Prim.Native.Nat.{ℕ, zero, suc, _+_, _<_}
@@ -12,40 +12,70 @@ use Rattle.bits.specs.Bit.{bit, value, matrix as matrix-of}
 use Rattle.matrix.specs.Logic.{combined}
 use Rattle.matrix.specs.Search.{first}
 use Rattle.matrix.specs.Pointer.{reset, in-range}
+use Rattle.network.specs.declared.block.Block.{Block}
 use Rattle.network.specs.Table.{total, reference-fault, start-of}
 use Rattle.network.specs.Rules.{rule, allows}
-use Rattle.network.specs.Record.{block-at}
-use Rattle.network.specs.Fault.{class-fault, number-fault, input-fault, faults, word-fault}
-use Rattle.network.specs.Check.{sizes-in, seek, head-faults, head-fault, fault-in, leading, opened}
+use Rattle.network.specs.Record.{block-in, spelled}
+use Rattle.network.specs.Network.{Network, words-of}
+use Rattle.network.specs.Fault.{faults}
+use Rattle.section.specs.Walk.{seek}
+use Rattle.section.specs.Section.{section-earns, earned, meaning, judged-from, whole, records-earn, records-in}
+use Rattle.network.specs.Check.{sizes-faults, areas-section, block-faults, blocks-section, network-in, checked}
+use Rattle.network.specs.Sound.{GoodNetwork}
+use Rattle.network.proofs.Values.{accepted-good}
 use Rattle.blocks.specs.Work.{block-outputs, block-table}
 use Rattle.scan.specs.Input.{passes}
-use Rattle.scan.specs.Scan.{step, steps, blocks-from, scanned}
+use Rattle.scan.specs.Scan.{step, steps, scanned}
 use Rattle.scan.specs.Demand3.{above, round, visit, source-in, matrix-in, pointer-in, source, matrix, stepped, SameBits, reports, times, nones, SourceLeavesOut, NothingElse, Premises, Round, all-outside, Chain}
 use Rattle.scan.proofs.Chained.{chain-is-stretch}
 use Rattle.scan.proofs.Demand3.{demand-3}
 
+-- ---- a network that its words spell, and that the checker takes
+unfoldable spelt : Network → Network × ℕ
+unfolding words-of flatMap spelled network-in meaning records-in block-in
+    checked whole judged-from earned section-earns records-earn areas-section sizes-faults blocks-section block-faults seek faults reference-fault rule allows
+spelt net = (network-in (words-of net), checked (words-of net) .number)
+
+taken : (net : Network) → spelt net ≡ (net, 0) → GoodNetwork net
+unfolding spelt
+taken net e = subst GoodNetwork (ap (λ (p : Network × ℕ). p .0) e) (accepted-good (words-of net) (ap (λ (p : Network × ℕ). p .1) e))
+
 -- ---- scans of one table, each of what the one before left
-unfoldable pub onward : List ℕ → List ℕ → ℕ → List ℕ
-onward ws t zero = t
-onward ws t (suc j) = scanned ws (onward ws t j) .table
+unfoldable pub onward : Network → List ℕ → ℕ → List ℕ
+onward net t zero = t
+onward net t (suc j) = scanned net (onward net t j) .table
 
--- a network without coils, discrete inputs and input registers, with three holding registers
-abbrev registers : ℕ → List ℕ → List ℕ
-registers count blocks = 4 ∷ 0 ∷ 0 ∷ 0 ∷ 3 ∷ count ∷ blocks
+-- a network of so many words of coils and of holding registers
+abbrev network : ℕ → ℕ → List Block → Network
+network coils holding blocks = record { sizes = record { coils = coils; discretes = 0; inputs = 0; holding = holding }; blocks = blocks }
 
--- a block on registers with power on top, without coils
-abbrev block : ℕ → ℕ → ℕ → List ℕ
-block kind top middle = kind ∷ 1 ∷ 4 ∷ top ∷ 4 ∷ middle ∷ 1 ∷ 0 ∷ 0 ∷ 0 ∷ 0 ∷ 0 ∷ 0 ∷ 0 ∷ 0 ∷ []
+-- a block of one word with power on top: its kind, the class and the number of its top node, its middle register, its middle coil
+abbrev block : ℕ → ℕ → ℕ → ℕ → ℕ → Block
+block kind class top middle coil = record {
+  kind = kind;
+  n = 1;
+  top = record { class = class; number = top };
+  middle = record { class = 4; number = middle };
+  inputs = record { top = record { code = 1; number = 0 }; middle = record { code = 0; number = 0 }; bottom = record { code = 0; number = 0 } };
+  coils = record { top = 0; middle = coil; bottom = 0 };
+}
+
+-- a network of three holding registers; a block on registers without coils
+abbrev registers : List Block → Network
+registers = network 0 3
+
+abbrev plain : ℕ → ℕ → ℕ → Block
+plain kind top middle = block kind 4 top middle 0
 
 -- the network of the bench's example: 40001 against 40003, with pointer 40002
-abbrev pub bench : List ℕ
-bench = registers 1 (block 5 1 2)
+abbrev pub bench : Network
+bench = registers (plain 5 1 2 ∷ [])
 
 -- the premises hold, whatever the three registers are
 pub bench-chain : (a p b m : ℕ) → Chain bench 0 m (onward bench (a ∷ p ∷ b ∷ []))
-unfolding onward all-outside passes start-of opened leading fault-in head-fault head-faults seek word-fault faults class-fault number-fault input-fault reference-fault rule allows block-at
+unfolding onward all-outside passes start-of spelt
 bench-chain a p b m = record {
-  accepted = refl;
+  accepted = taken bench refl;
   there = omega arith;
   compares = refl;
   first-size = refl;
@@ -59,7 +89,6 @@ bench-chain a p b m = record {
 -- so every round of it is one, from any pointer
 pub bench-round : (a p b j : ℕ) → let given = onward bench (a ∷ p ∷ b ∷ []) in
     Round (source bench 0 (given j)) (matrix bench 0 (given j)) 1 (reports bench 0 given j (round (source bench 0 (given j)) (matrix bench 0 (given j)) 1))
-unfolding block-at
 bench-round a p b j =
     let given : ℕ → List ℕ = onward bench (a ∷ p ∷ b ∷ []) in
     let c : ℕ = round (source bench 0 (given j)) (matrix bench 0 (given j)) 1 in
@@ -79,7 +108,7 @@ pub bench-reports :
     ∷ (none ∷ none ∷ [])
     ∷ (some 1 ∷ some 16 ∷ some 1 ∷ [])
     ∷ [])
-unfolding onward reports step steps blocks-from passes block-table block-outputs first reset in-range start-of matrix-of value bit xor block-at
+unfolding onward reports step steps passes block-table block-outputs first reset in-range start-of matrix-of value bit xor
 bench-reports = refl
 
 -- ---- what the last premises are for
@@ -98,8 +127,8 @@ below-three P a b c (suc (suc (suc j))) l = absurd (omega arith)
 
 -- the source leaves out the pointer: here it is the pointer, 40002 against 40003. Nothing else changes it; but in the two scans
 -- after the first, a round by then, no scan reports no miscompare.
-abbrev own-source : List ℕ
-own-source = registers 1 (block 5 2 2)
+abbrev own-source : Network
+own-source = registers (plain 5 2 2 ∷ [])
 
 abbrev own-tables : ℕ → List ℕ
 own-tables = onward own-source (0 ∷ 0 ∷ 0 ∷ [])
@@ -108,15 +137,14 @@ pub source-must-leave-out :
     Premises Unit (NothingElse own-source 0 3 own-tables) own-source 0 3 own-tables
     × (Round (source own-source 0 (own-tables 1)) (matrix own-source 0 (own-tables 1)) 1
     (reports own-source 0 own-tables 1 (round (source own-source 0 (own-tables 1)) (matrix own-source 0 (own-tables 1)) 1)) → ⊥)
-unfolding onward reports step steps blocks-from passes block-table block-outputs first reset in-range start-of matrix-of value bit xor
-    opened leading fault-in head-fault head-faults seek word-fault faults class-fault number-fault input-fault reference-fault rule allows block-at
+unfolding onward reports step steps passes block-table block-outputs first reset in-range start-of matrix-of value bit xor spelt
     above nones
 source-must-leave-out = (
   record {
-    accepted = refl;
+    accepted = taken own-source refl;
     there = omega arith;
     compares = refl;
-    right-size = below-three (λ j. length (own-tables j) ≡ total (sizes-in own-source)) refl refl refl;
+    right-size = below-three (λ j. length (own-tables j) ≡ total (own-source .sizes)) refl refl refl;
     powered = λ j l. refl;
     not-reset = λ j l. refl;
     source-leaves-out = tt;
@@ -130,8 +158,8 @@ source-must-leave-out = (
 )
 
 -- nothing else changes: here COMP turns the matrix over in every scan, so that bit 2 is reported, at which the two did not differ
-abbrev turned-over : List ℕ
-turned-over = registers 2 (block 5 1 2 ++ block 4 3 3)
+abbrev turned-over : Network
+turned-over = registers (plain 5 1 2 ∷ plain 4 3 3 ∷ [])
 
 abbrev turned-tables : ℕ → List ℕ
 turned-tables = onward turned-over (0x8001 ∷ 0 ∷ 0 ∷ [])
@@ -140,15 +168,14 @@ pub nothing-else-must-change :
     Premises (SourceLeavesOut turned-over 0) Unit turned-over 0 2 turned-tables
     × (Round (source turned-over 0 (turned-tables 0)) (matrix turned-over 0 (turned-tables 0)) 1
     (reports turned-over 0 turned-tables 0 (round (source turned-over 0 (turned-tables 0)) (matrix turned-over 0 (turned-tables 0)) 1)) → ⊥)
-unfolding onward reports step steps blocks-from passes block-table block-outputs first combined reset in-range start-of matrix-of value bit xor
-    opened leading fault-in head-fault head-faults seek word-fault faults class-fault number-fault input-fault reference-fault rule allows block-at
+unfolding onward reports step steps passes block-table block-outputs first combined reset in-range start-of matrix-of value bit xor spelt
     above times
 nothing-else-must-change = (
   record {
-    accepted = refl;
+    accepted = taken turned-over refl;
     there = omega arith;
     compares = refl;
-    right-size = below-two (λ j. length (turned-tables j) ≡ total (sizes-in turned-over)) refl refl;
+    right-size = below-two (λ j. length (turned-tables j) ≡ total (turned-over .sizes)) refl refl;
     powered = λ j l. refl;
     not-reset = λ j l. refl;
     source-leaves-out = inr (omega arith);
@@ -159,8 +186,8 @@ nothing-else-must-change = (
 
 -- the block's own coils included: a network of this block alone, whose middle coil, 00005, lies in its source, coils 1 to 16. It
 -- reports 1 and then 5, and never that there is no miscompare.
-abbrev own-coil : List ℕ
-own-coil = 4 ∷ 1 ∷ 0 ∷ 0 ∷ 2 ∷ 1 ∷ 5 ∷ 1 ∷ 0 ∷ 1 ∷ 4 ∷ 1 ∷ 1 ∷ 0 ∷ 0 ∷ 0 ∷ 0 ∷ 0 ∷ 0 ∷ 5 ∷ 0 ∷ []
+abbrev own-coil : Network
+own-coil = network 1 2 (block 5 0 1 1 5 ∷ [])
 
 abbrev coil-tables : ℕ → List ℕ
 coil-tables = onward own-coil (0x8000 ∷ 0 ∷ 0 ∷ [])
@@ -169,15 +196,14 @@ pub own-coils-included :
     Premises (SourceLeavesOut own-coil 0) Unit own-coil 0 2 coil-tables
     × (Round (source own-coil 0 (coil-tables 0)) (matrix own-coil 0 (coil-tables 0)) 1
     (reports own-coil 0 coil-tables 0 (round (source own-coil 0 (coil-tables 0)) (matrix own-coil 0 (coil-tables 0)) 1)) → ⊥)
-unfolding onward reports step steps blocks-from passes block-table block-outputs first reset in-range start-of matrix-of value bit xor
-    opened leading fault-in head-fault head-faults seek word-fault faults class-fault number-fault input-fault reference-fault rule allows block-at
+unfolding onward reports step steps passes block-table block-outputs first reset in-range start-of matrix-of value bit xor spelt
     above nones
 own-coils-included = (
   record {
-    accepted = refl;
+    accepted = taken own-coil refl;
     there = omega arith;
     compares = refl;
-    right-size = below-two (λ j. length (coil-tables j) ≡ total (sizes-in own-coil)) refl refl;
+    right-size = below-two (λ j. length (coil-tables j) ≡ total (own-coil .sizes)) refl refl;
     powered = λ j l. refl;
     not-reset = λ j l. refl;
     source-leaves-out = inr (omega arith);

@@ -23,8 +23,9 @@ use Rattle.matrix.specs.Single.{read-answer, put-table}
 use Rattle.matrix.proofs.Refusals.{unless-done, fault-none, fault-at-none}
 use Rattle.matrix.proofs.Runs.{run-length}
 use Rattle.matrix.proofs.Singles.{placed-set}
-use Rattle.network.specs.declared.sizes.Sizes.{Sizes}
+use Rattle.network.specs.Network.{Network}
 use Rattle.blocks.specs.declared.Power.{Power}
+use Rattle.blocks.specs.declared.Outputs.{Outputs}
 use Rattle.blocks.specs.Effect.{Effect, effect, idle, logic, rotate}
 use Rattle.blocks.specs.Work.{matrix-put, one-word, coil-put}
 use Rattle.scan.specs.Inner.{Does, combined-at, rotated-at, put-at, CoilArea}
@@ -62,21 +63,21 @@ module _ (t : List ℕ) (d n p : ℕ) (on : Bool) where
       ∙ ap (λ (a : Bool). matrix-put d (cond a none (some (matrix n (λ q. cond (eqb q p) on (bit (run t d n) q))))) t) (sym (ne-eqb p 0 e))
 
 -- ---- a coil
-module _ (z : Sizes) (number : ℕ) (on : Bool) (t : List ℕ) where
-  pub no-coil : number ≡ 0 → t ≡ coil-put z number on t
+module _ (net : Network) (number : ℕ) (on : Bool) (t : List ℕ) where
+  pub no-coil : number ≡ 0 → t ≡ coil-put net number on t
   unfolding coil-put
-  no-coil e = ap (λ (a : Bool). cond a t (placed t 0 (matrix (z .coils) (λ p. cond (eqb p number) on (bit (run t 0 (z .coils)) p))))) (sym (eq-eqb number 0 e))
+  no-coil e = ap (λ (a : Bool). cond a t (placed t 0 (matrix (net .sizes .coils) (λ p. cond (eqb p number) on (bit (run t 0 (net .sizes .coils)) p))))) (sym (eq-eqb number 0 e))
 
-  pub coil-is-put : (number ≡ 0 → ⊥) → CoilArea z t → number ≤ 16 * z .coils → put-table t 0 (z .coils) number on ≡ coil-put z number on t
+  pub coil-is-put : (number ≡ 0 → ⊥) → CoilArea (net .sizes) t → number ≤ 16 * net .sizes .coils → put-table t 0 (net .sizes .coils) number on ≡ coil-put net number on t
   unfolding coil-put put-table
   coil-is-put e h l =
-      unless-done (fault-at (length t) (z .coils) 0 number) (placed t 0 (matrix (z .coils) (λ p. cond (eqb p number) on (bit (run t 0 (z .coils)) p)))) t
-      (fault-at-none (length t) (z .coils) 0 number (record {
+      unless-done (fault-at (length t) (net .sizes .coils) 0 number) (placed t 0 (matrix (net .sizes .coils) (λ p. cond (eqb p number) on (bit (run t 0 (net .sizes .coils)) p)))) t
+      (fault-at-none (length t) (net .sizes .coils) 0 number (record {
         run-accepted = record { some-words = omega arith; few = omega (arith, h .few); first = omega (arith, h .inside); second = omega (arith, h .inside) };
         counted = omega arith;
         within = l;
       }))
-      ∙ ap (λ (a : Bool). cond a t (placed t 0 (matrix (z .coils) (λ p. cond (eqb p number) on (bit (run t 0 (z .coils)) p))))) (sym (ne-eqb number 0 e))
+      ∙ ap (λ (a : Bool). cond a t (placed t 0 (matrix (net .sizes .coils) (λ p. cond (eqb p number) on (bit (run t 0 (net .sizes .coils)) p))))) (sym (ne-eqb number 0 e))
 
 -- ---- the pointer: a word stored is a matrix of one word put
 alone : (m : List ℕ) (w : ℕ) → length m ≡ 1 → set m 0 w ≡ w ∷ []
@@ -107,11 +108,11 @@ is-on true e = refl
 is-on false e = absurd (false≢true (sym e))
 
 -- ---- effects
-pub by-effect : (on : Power) (d p : ℕ) (t : List ℕ) (r : Power) (table : List ℕ) {e f : Effect} → e ≡ f → Does on f d p t r table → Does on e d p t r table
+pub by-effect : (on : Power) (d p : ℕ) (t : List ℕ) (r : Outputs) (table : List ℕ) {e f : Effect} → e ≡ f → Does on f d p t r table → Does on e d p t r table
 by-effect on d p t r table q = subst (λ (x : Effect). Does on x d p t r table) (sym q)
 
 -- the outputs of a block whose lower outputs are these
-abbrev pub shows : Power → Bool → Bool → Power
+abbrev pub shows : Power → Bool → Bool → Outputs
 shows on middle bottom = record { top = on .top; middle = middle; bottom = bottom }
 
 -- nothing is done

@@ -7,31 +7,23 @@ use mathlib.Core.List.{List, [], _++_, map}
 use mathlib.Core.Option.{none, some}
 use lib.Dec.{eqb}
 use lib.ListN.{length, getD, take, drop, set}
+use Rattle.matrix.specs.declared.{logic.Operation.Operation, logic.Operation.the-variants.And, logic.Operation.the-variants.Or, logic.Operation.the-variants.Xor, logic.Operation.the-variants.Comp, pointer.Pointer.Pointer}
+use Rattle.network.specs.declared.{sizes.Sizes.Sizes, block.Node.Node, block.Inputs.Inputs, block.Coils.Coils, block.Block.Block, checker.Opened.Opened}
+use Rattle.blocks.specs.declared.{Power.Power, Outputs.Outputs}
+use Rattle.scan.specs.declared.{located.Located.Located, records.Numbers.Numbers}
 use Rattle.bits.specs.Bit.{bit, matrix}
 use Rattle.bits.specs.Promise.{Leaves, LeavesTwo}
-use Rattle.matrix.specs.declared.logic.Operation.{Operation}
-use Rattle.matrix.specs.declared.logic.Operation.the-variants.{And, Or, Xor, Comp}
-use Rattle.matrix.specs.declared.pointer.Pointer.{Pointer}
 use Rattle.matrix.specs.Run.{run}
 use Rattle.matrix.specs.Pointer.{reset, advanced}
-use Rattle.network.specs.declared.sizes.Sizes.{Sizes}
-use Rattle.network.specs.declared.block.Node.{Node}
-use Rattle.network.specs.declared.block.Inputs.{Inputs}
-use Rattle.network.specs.declared.block.Coils.{Coils}
-use Rattle.network.specs.declared.block.Block.{Block}
-use Rattle.network.specs.declared.checker.Opened.{Opened}
 use Rattle.network.specs.Table.{most-coils, most-discretes, total}
-use Rattle.network.specs.Record.{word, block-at}
-use Rattle.network.specs.Check.{sizes-in, block-start, opened, checked}
+use Rattle.network.specs.Network.{Network, block-of, block-count}
+use Rattle.network.specs.Check.{opened, checked, network-in}
 use Rattle.network.specs.Sound.{GoodInput}
-use Rattle.blocks.specs.declared.Power.{Power}
 use Rattle.blocks.specs.Kind.{kind-of}
 use Rattle.blocks.specs.View.{first-word, seen}
 use Rattle.blocks.specs.Effect.{Effect, logic, compare, rotate, modify, sense}
 use Rattle.blocks.specs.Work.{pointer-node, matrix-put, one-word, effect-on, outputs, block-outputs, block-table}
 use Rattle.blocks.specs.Truths.{Runs}
-use Rattle.scan.specs.declared.located.Located.{Located}
-use Rattle.scan.specs.declared.records.Numbers.{Numbers}
 use Rattle.scan.specs.Input.{power-on}
 use Rattle.scan.specs.Scan.{packed, unpacked, scan-verdict, scan-table, scan-outputs}
 use Rattle.scan.specs.Scans.{pointer-of, scans-table, scans-outputs, scans-pointers}
@@ -56,7 +48,7 @@ Pointing node t register = (node .class ≡ 9 → ⊥) → register < length t
 -- ---- what a kind does to the words of a table, by their indexes
 
 -- the outputs of an effect, and the destination and then the pointer written, which start at d and p
-abbrev pub Does : Power → Effect → ℕ → ℕ → List ℕ → Power → List ℕ → Type 0
+abbrev pub Does : Power → Effect → ℕ → ℕ → List ℕ → Outputs → List ℕ → Type 0
 Does on e d p t r table = Leaves (outputs on e) (matrix-put p (one-word (e .pointer)) (matrix-put d (e .destination) t)) r table
 
 abbrev pub combined-at : Operation → List ℕ → ℕ → ℕ → ℕ → Power → Effect
@@ -95,29 +87,29 @@ pub record GoodCoils (z : Sizes) (coils : Coils) : Type 0 where
   pub bottom-coil : coils .bottom ≤ 16 * z .coils
 
 -- the indexes are those of the nodes' first words
-pub record Lies (z : Sizes) (one : Located) : Type 0 where
-  pub top-word : one .top ≡ first-word z (one .block .top)
-  pub middle-word : one .middle ≡ first-word z (one .block .middle)
+pub record Lies (net : Network) (one : Located) : Type 0 where
+  pub top-word : one .top ≡ first-word net (one .block .top)
+  pub middle-word : one .middle ≡ first-word net (one .block .middle)
 
 -- a block of a checked network, and a table of exactly its areas
-pub record Ready (z : Sizes) (one : Located) (t : List ℕ) : Type 0 where
+pub record Ready (net : Network) (one : Located) (t : List ℕ) : Type 0 where
   pub earlier : ℕ
-  pub runs : Runs z earlier (one .block) t
-  pub lies : Lies z one
-  pub few-coils : z .coils ≤ most-coils
+  pub runs : Runs net earlier (one .block) t
+  pub lies : Lies net one
+  pub few-coils : net .sizes .coils ≤ most-coils
 
 -- of some network
 pub record Runnable (one : Located) (t : List ℕ) : Type 0 where
-  pub sizes : Sizes
-  pub ready : Ready sizes one t
+  pub network : Network
+  pub ready : Ready network one t
 
--- what is true by whichever sizes a block lies there
-abbrev pub Whichever : Located → List ℕ → (Sizes → Block → Type 0) → Type 0
-Whichever one t P = (z : Sizes) → Ready z one t → P z (one .block)
+-- what is true by whichever network a block lies there
+abbrev pub Whichever : Located → List ℕ → (Network → Block → Type 0) → Type 0
+Whichever one t P = (net : Network) → Ready net one t → P net (one .block)
 
 -- the block's outputs, and its destination and pointer written
-abbrev pub Works : Sizes → Block → Power → List ℕ → Power → List ℕ → Type 0
-Works z b on t r table = Does on (effect-on z b t on) (first-word z (b .middle)) (first-word z (pointer-node (kind-of (b .kind)) b)) t r table
+abbrev pub Works : Network → Block → Power → List ℕ → Outputs → List ℕ → Type 0
+Works net b on t r table = Does on (effect-on net b t on) (first-word net (b .middle)) (first-word net (pointer-node (kind-of (b .kind)) b)) t r table
 
 -- ---- inputs
 
@@ -136,23 +128,23 @@ pub record GoodInputs (z : Sizes) (earlier : ℕ) (inputs : Inputs) : Type 0 whe
 
 -- block k + 1 of a checked network, its table, and lists with an entry for it after those of the k earlier blocks of this scan, which
 -- stand from an entry on
-pub record Next (z : Sizes) (one : Located) (t packs marks : List ℕ) (first k : ℕ) : Type 0 where
-  pub runs : Runs z k (one .block) t
-  pub lies : Lies z one
-  pub few-coils : z .coils ≤ most-coils
-  pub few-discretes : z .discretes ≤ most-discretes
+pub record Next (net : Network) (one : Located) (t packs marks : List ℕ) (first k : ℕ) : Type 0 where
+  pub runs : Runs net k (one .block) t
+  pub lies : Lies net one
+  pub few-coils : net .sizes .coils ≤ most-coils
+  pub few-discretes : net .sizes .discretes ≤ most-discretes
   pub entry : first + k < length packs
   pub mark-entry : first + k < length marks
 
 -- the power on a block's inputs, where the outputs of the k earlier blocks are packed
-abbrev pub power-of : Sizes → Block → List ℕ → List ℕ → ℕ → ℕ → Power
-power-of z b t packs first k = power-on z t (map unpacked (take k (drop first packs))) (b .inputs)
+abbrev pub power-of : Network → Block → List ℕ → List ℕ → ℕ → ℕ → Power
+power-of net b t packs first k = power-on net t (map unpacked (take k (drop first packs))) (b .inputs)
 
 -- the table that the block leaves, and its outputs and its pointer in their entries
-pub record Ran (z : Sizes) (one : Located) (first k : ℕ) (t packs marks table after marked : List ℕ) : Type 0 where
-  pub table-after : table ≡ block-table z (one .block) t (power-of z (one .block) t packs first k)
-  pub entry-after : after ≡ set packs (first + k) (packed (block-outputs z (one .block) t (power-of z (one .block) t packs first k)))
-  pub mark-after : marked ≡ set marks (first + k) (pointer-of z (one .block) table)
+pub record Ran (net : Network) (one : Located) (first k : ℕ) (t packs marks table after marked : List ℕ) : Type 0 where
+  pub table-after : table ≡ block-table net (one .block) t (power-of net (one .block) t packs first k)
+  pub entry-after : after ≡ set packs (first + k) (packed (block-outputs net (one .block) t (power-of net (one .block) t packs first k)))
+  pub mark-after : marked ≡ set marks (first + k) (pointer-of net (one .block) table)
 
 -- an opening of these words, which are accepted
 pub record Legible (ws : List ℕ) (o : Opened) : Type 0 where
@@ -160,16 +152,16 @@ pub record Legible (ws : List ℕ) (o : Opened) : Type 0 where
   pub accepted : checked ws .number ≡ 0
 
 -- block k + 1 of a network, with the first words of its nodes
-abbrev pub located-at : List ℕ → ℕ → Located
-located-at ws k = record {
-  block = block-at ws (block-start k);
-  top = first-word (sizes-in ws) (block-at ws (block-start k) .top);
-  middle = first-word (sizes-in ws) (block-at ws (block-start k) .middle);
+abbrev pub located-at : Network → ℕ → Located
+located-at net k = record {
+  block = block-of net k;
+  top = first-word net (block-of net k .top);
+  middle = first-word net (block-of net k .middle);
 }
 
 -- a list that has every block of a network in its entry
-abbrev pub Locates : List ℕ → List Located → Type 0
-Locates ws blocks = (k : ℕ) → k < word ws 5 → (otherwise : Located) → getD blocks k otherwise ≡ located-at ws k
+abbrev pub Locates : Network → List Located → Type 0
+Locates net blocks = (k : ℕ) → k < block-count net → (otherwise : Located) → getD blocks k otherwise ≡ located-at net k
 
 -- ---- several scans
 
@@ -177,23 +169,17 @@ Locates ws blocks = (k : ℕ) → k < word ws 5 → (otherwise : Located) → ge
 pub record Repeatable (ws : List ℕ) (o : Opened) (t : List ℕ) (times : ℕ) (outputs pointers : List ℕ) : Type 0 where
   pub opens : o ≡ opened ws
   pub accepted : checked ws .number ≡ 0
-  pub exact : length t ≡ total (sizes-in ws)
-  pub outputs-room : times * word ws 5 ≤ length outputs
-  pub pointers-room : times * word ws 5 ≤ length pointers
+  pub exact : length t ≡ total (network-in ws .sizes)
+  pub outputs-room : times * block-count (network-in ws) ≤ length outputs
+  pub pointers-room : times * block-count (network-in ws) ≤ length pointers
 
 -- the table after them, and the lists with their outputs and pointers in front
-pub record Repeated (ws : List ℕ) (times : ℕ) (t outputs pointers table packs marks : List ℕ) : Type 0 where
-  pub table-after : table ≡ scans-table ws t times
-  pub outputs-after : packs ≡ scans-outputs ws t times ++ drop (times * word ws 5) outputs
-  pub pointers-after : marks ≡ scans-pointers ws t times ++ drop (times * word ws 5) pointers
+pub record Repeated (net : Network) (times : ℕ) (t outputs pointers table packs marks : List ℕ) : Type 0 where
+  pub table-after : table ≡ scans-table net t times
+  pub outputs-after : packs ≡ scans-outputs net t times ++ drop (times * block-count net) outputs
+  pub pointers-after : marks ≡ scans-pointers net t times ++ drop (times * block-count net) pointers
 
 -- ---- a scan with records
-
--- the smaller of two numbers
-pub record Least (a b r : ℕ) : Type 0 where
-  pub first : r ≤ a
-  pub second : r ≤ b
-  pub both : (n : ℕ) → n ≤ a → n ≤ b → n ≤ r
 
 -- the first numbers, over any list with so many entries, are what a scan of that list leaves
 pub record Numbered (ws t : List ℕ) (room : ℕ) (r : Numbers) (table : List ℕ) : Type 0 where

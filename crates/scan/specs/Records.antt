@@ -5,36 +5,22 @@ use mathlib.Core.Path.{_≡_}
 use mathlib.Core.List.{List, map}
 use lib.ListN.{length, getD, drop}
 use Rattle.bits.specs.declared.Verdict.{Verdict}
-use Rattle.network.specs.Record.{word}
-use Rattle.network.specs.Check.{verdict, checked}
-use Rattle.blocks.specs.declared.Power.{Power}
-use Rattle.scan.specs.declared.records.Outputs.{Outputs}
+use Rattle.network.specs.Network.{block-count}
+use Rattle.section.specs.Walk.{verdict}
+use Rattle.network.specs.Check.{checked, network-in}
+use Rattle.blocks.specs.declared.Outputs.{Outputs}
 use Rattle.scan.specs.Input.{of-block}
 use Rattle.scan.specs.Scan.{scanned, packed, unpacked, scan-verdict, scan-table, scan-outputs}
 
--- the power on three outputs as a record, and back
-abbrev pub as-record : Power → Outputs
-as-record out = record { top = out .top; middle = out .middle; bottom = out .bottom }
-
-abbrev pub as-power : Outputs → Power
-as-power o = record { top = o .top; middle = o .middle; bottom = o .bottom }
-
--- a record as one number, and a number as a record
-abbrev pub pack : Outputs → ℕ
-pack o = packed (as-power o)
-
-abbrev pub unpack : ℕ → Outputs
-unpack w = as-record (unpacked w)
-
 -- the verdict, the table and the list that a scan leaves
 abbrev pub records-verdict : List ℕ → List ℕ → List Outputs → Verdict
-records-verdict ws t os = scan-verdict ws t (map pack os)
+records-verdict ws t os = scan-verdict ws t (map packed os)
 
 abbrev pub records-table : List ℕ → List ℕ → List Outputs → List ℕ
-records-table ws t os = scan-table ws t (map pack os)
+records-table ws t os = scan-table ws t (map packed os)
 
 abbrev pub records-outputs : List ℕ → List ℕ → List Outputs → List Outputs
-records-outputs ws t os = map unpack (scan-outputs ws t (map pack os))
+records-outputs ws t os = map unpacked (scan-outputs ws t (map packed os))
 
 -- the contract of a scan with records: the answer, the table and the list
 pub record Recorded (ws t : List ℕ) (os : List Outputs) (answer : Verdict) (table : List ℕ) (list : List Outputs) : Type 0 where
@@ -46,17 +32,17 @@ pub record Recorded (ws t : List ℕ) (os : List Outputs) (answer : Verdict) (ta
 
 -- a record that is packed and unpacked is the record
 abbrev pub UnpackPack : Type 0
-UnpackPack = (o : Outputs) → unpack (pack o) ≡ o
+UnpackPack = (o : Outputs) → unpacked (packed o) ≡ o
 
 -- entry k - 1 holds the outputs of block k in this scan
 abbrev pub RecordOfBlock : Type 0
 RecordOfBlock =
-    (ws t : List ℕ) (os : List Outputs) (k : ℕ) (d : Outputs) → records-verdict ws t os .number ≡ 0 → 1 ≤ k → k ≤ word ws 5 →
-    getD (records-outputs ws t os) (k - 1) d ≡ as-record (of-block (scanned ws t .outs) k)
+    (ws t : List ℕ) (os : List Outputs) (k : ℕ) (d : Outputs) → records-verdict ws t os .number ≡ 0 → 1 ≤ k → k ≤ block-count (network-in ws) →
+    getD (records-outputs ws t os) (k - 1) d ≡ of-block (scanned (network-in ws) t .outs) k
 
 -- entries after the count stay
 abbrev pub EntriesStay : Type 0
-EntriesStay = (ws t : List ℕ) (os : List Outputs) → drop (word ws 5) (records-outputs ws t os) ≡ drop (word ws 5) os
+EntriesStay = (ws t : List ℕ) (os : List Outputs) → drop (block-count (network-in ws)) (records-outputs ws t os) ≡ drop (block-count (network-in ws)) os
 
 -- a refusal changes neither the table nor the list
 abbrev pub RefusalKeepsRecords : Type 0
@@ -67,4 +53,4 @@ RefusalKeepsRecords =
 -- of a network that is accepted, a list shorter than the count is refused
 abbrev pub ShortListRefused : Type 0
 ShortListRefused =
-    (ws t : List ℕ) (os : List Outputs) → checked ws .number ≡ 0 → length os < word ws 5 → records-verdict ws t os ≡ verdict 12 0
+    (ws t : List ℕ) (os : List Outputs) → checked ws .number ≡ 0 → length os < block-count (network-in ws) → records-verdict ws t os ≡ verdict 12 0

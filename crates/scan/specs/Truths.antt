@@ -4,7 +4,7 @@ use mathlib.Core.Path.{_≡_}
 use mathlib.Core.List.{List}
 use lib.ListN.{length}
 use Rattle.bits.specs.Bit.{bit}
-use Rattle.network.specs.Check.{sizes-in}
+use Rattle.network.specs.Check.{network-in}
 use Rattle.scan.specs.Scan.{scan-verdict, scan-table, scan-outputs}
 
 -- a refusal changes neither the table nor the outputs
@@ -21,5 +21,5 @@ SameLong = (ws t outputs : List ℕ) → length (scan-table ws t outputs) ≡ le
 abbrev pub InputsStay : Type 0
 InputsStay =
     (ws t outputs : List ℕ) (p : ℕ) →
-    16 * sizes-in ws .coils < p → p ≤ 16 * (sizes-in ws .coils + sizes-in ws .discretes + sizes-in ws .inputs) →
+    let z = network-in ws .sizes in 16 * z .coils < p → p ≤ 16 * (z .coils + z .discretes + z .inputs) →
     bit (scan-table ws t outputs) p ≡ bit t p

@@ -6,12 +6,14 @@ use crate::single::modify;
 use crate::single::sense;
 use crate::whole::logic;
 use crate::whole::rotate;
+use blocks::Outputs;
 use blocks::Power;
 use matrix::Operation;
 use network::Node;
 use network::Sizes;
 ghost use mathlib.Core.Path.{_≡_};
 ghost use Rattle.bits.specs.Promise.{Leaves};
+ghost use Rattle.network.specs.Network.{areas-only};
 ghost use Rattle.blocks.specs.Work.{block-outputs, block-table};
 ghost use Rattle.scan.specs.Scans.{pointer-of};
 ghost use Rattle.scan.specs.Inner.{Pointing, pointer-at, operation-of, Ready, Runnable, Whichever, Works};
@@ -40,9 +42,9 @@ fn operation(kind: u16) -> Operation
 }
 
 // The destination and the pointer are written as the kind's rule says; the answer is the outputs.
-fn work(table: &mut [u16], one: Located, on: Power) -> Power
+fn work(table: &mut [u16], one: Located, on: Power) -> Outputs
     requires { ⌜ Runnable one (now table) ⌝ }
-    ensures { λ r. ⌜ Whichever one (now (table .entry)) (λ z b. Works z b on (now (table .entry)) r (now (table .exit))) ⌝ }
+    ensures { λ r. ⌜ Whichever one (now (table .entry)) (λ net b. Works net b on (now (table .entry)) r (now (table .exit))) ⌝ }
 {
     let block = one.block;
     let top = one.top;
@@ -66,10 +68,11 @@ fn work(table: &mut [u16], one: Located, on: Power) -> Power
 }
 
 // The block's work, then its coils, also when the top input has no power.
-pub(crate) fn run(table: &mut [u16], sizes: Sizes, one: Located, on: Power) -> Power
-    requires { ⌜ Ready sizes one (now table) ⌝ }
+pub(crate) fn run(table: &mut [u16], sizes: Sizes, one: Located, on: Power) -> Outputs
+    requires { ⌜ Ready (areas-only sizes) one (now table) ⌝ }
     ensures { λ r. ⌜
-        Leaves (block-outputs sizes (one .block) (now (table .entry)) on) (block-table sizes (one .block) (now (table .entry)) on)
+        Leaves (block-outputs (areas-only sizes) (one .block) (now (table .entry)) on)
+        (block-table (areas-only sizes) (one .block) (now (table .entry)) on)
         r (now (table .exit)) ⌝ }
 {
     let out = work(table, one, on);
@@ -80,7 +83,7 @@ pub(crate) fn run(table: &mut [u16], sizes: Sizes, one: Located, on: Power) -> P
 // The block's pointer as the table has it; 0 for a kind without one.
 pub(crate) fn pointer_of(table: &[u16], one: Located) -> u16
     requires { ⌜ Runnable one (now table) ⌝ }
-    ensures { λ r. ⌜ Whichever one (now (table .entry)) (λ z b. r ≡ pointer-of z b (now (table .entry))) ⌝ }
+    ensures { λ r. ⌜ Whichever one (now (table .entry)) (λ net b. r ≡ pointer-of net b (now (table .entry))) ⌝ }
 {
     let block = one.block;
     let kind = block.kind;

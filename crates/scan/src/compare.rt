@@ -2,6 +2,7 @@
 use crate::pointer::put_pointer;
 use crate::pointer::set_to;
 use crate::single::bit;
+use blocks::Outputs;
 use blocks::Power;
 use matrix::Difference;
 use matrix::Pointer;
@@ -12,7 +13,7 @@ ghost use Rattle.matrix.specs.Inner.{Accepted};
 ghost use Rattle.scan.specs.Inner.{Does, compared-at};
 
 // The n words from s on against the n words after the pointer, which stands at p.
-pub(crate) fn compare(table: &mut [u16], s: usize, p: usize, n: usize, on: Power) -> Power
+pub(crate) fn compare(table: &mut [u16], s: usize, p: usize, n: usize, on: Power) -> Outputs
     requires { ⌜ Accepted longest-whole (length (now table)) n s (p + 1) ⌝ }
     ensures { λ r. ⌜ Does on (compared-at (now (table .entry)) s p n on) p p (now (table .entry)) r (now (table .exit)) ⌝ }
 {
@@ -20,7 +21,7 @@ pub(crate) fn compare(table: &mut [u16], s: usize, p: usize, n: usize, on: Power
     let size = (16 * n) as u16;
     let at = table[p];
     let pointer = set_to(0, on.middle, Pointer { at, size });
-    let off = Power {
+    let off = Outputs {
         top: on.top,
         middle: false,
         bottom: false,
@@ -36,7 +37,7 @@ pub(crate) fn compare(table: &mut [u16], s: usize, p: usize, n: usize, on: Power
     };
     let shown = bit(table, s, n, found);
     table[p] = found;
-    Power {
+    Outputs {
         top: on.top,
         middle: true,
         bottom: shown,

@@ -21,20 +21,20 @@ use crate::input::power_on;
 use crate::located::Located;
 use crate::repeat::scans_opened;
 use bits::Verdict;
-use blocks::Power;
+pub use blocks::Outputs;
 use network::Opened;
 use network::Sizes;
-pub use records::Outputs;
 pub use records::scan;
 pub use repeat::scans;
 ghost use mathlib.Core.Path.{_≡_};
 ghost use Rattle.bits.specs.Promise.{LeavesTwo};
+ghost use Rattle.network.specs.Network.{areas-only};
 ghost use Rattle.network.specs.Check.{opened};
 ghost use Rattle.scan.specs.Scan.{packed, scan-verdict, scan-table, scan-outputs};
 ghost use Rattle.scan.specs.Inner.{Next, Ran};
 
 // Three outputs as one number: top is worth 1, middle 2, bottom 4.
-fn packed(out: Power) -> u16
+fn packed(out: Outputs) -> u16
     ensures { λ r. ⌜ r ≡ packed out ⌝ }
 {
     out.top as u16 + 2 * out.middle as u16 + 4 * out.bottom as u16
@@ -51,9 +51,9 @@ fn run_one(
     first: usize,
     k: usize,
 )
-    requires { ⌜ Next sizes one (now table) (now outputs) (now pointers) first k ⌝ }
+    requires { ⌜ Next (areas-only sizes) one (now table) (now outputs) (now pointers) first k ⌝ }
     ensures { λ _. ⌜
-        Ran sizes one first k
+        Ran (areas-only sizes) one first k
         (now (table .entry)) (now (outputs .entry)) (now (pointers .entry))
         (now (table .exit)) (now (outputs .exit)) (now (pointers .exit)) ⌝ }
 {

@@ -6,6 +6,7 @@ use network::Inputs;
 use network::Node;
 use network::Opened;
 use network::Read;
+ghost use Rattle.network.specs.Check.{network-in};
 ghost use Rattle.scan.specs.Inner.{Legible, Locates};
 
 // A block's record, and the indexes of its nodes' first words.
@@ -47,7 +48,7 @@ fn nothing() -> Located {
 // The records of a network's blocks, in their order.
 pub(crate) fn blocks_of(words: &[u16], o: Opened) -> [Located; 128]
     requires { ⌜ Legible (now words) o ⌝ }
-    ensures { λ r. ⌜ Locates (now (words .entry)) r ⌝ }
+    ensures { λ r. ⌜ Locates (network-in (now (words .entry))) r ⌝ }
 {
     let mut blocks = [nothing(); 128];
     let count = o.count as usize;

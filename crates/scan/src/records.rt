@@ -4,19 +4,14 @@
 // stands, only move what the numbers say into it.
 use crate::scan_opened;
 use bits::Verdict;
+use blocks::Outputs;
 ghost use mathlib.Core.Path.{_≡_};
 ghost use mathlib.Core.List.{map, _++_};
-ghost use Prim.Native.Nat.{_<_, _≤_};
+ghost use Prim.Native.Nat.{_<_, _≤_, min};
 ghost use lib.ListN.{length, take, drop, getD};
-ghost use Rattle.scan.specs.Records.{unpack, Recorded};
-ghost use Rattle.scan.specs.Inner.{Least, Numbered};
-
-// The three outputs of a block.
-pub struct Outputs {
-    pub top: bool,
-    pub middle: bool,
-    pub bottom: bool,
-}
+ghost use Rattle.scan.specs.Scan.{unpacked};
+ghost use Rattle.scan.specs.Records.{Recorded};
+ghost use Rattle.scan.specs.Inner.{Numbered};
 
 // The verdict on a scan, and the numbers of its blocks' outputs in front of a list: none where it is refused.
 struct Numbers {
@@ -27,7 +22,7 @@ struct Numbers {
 
 // The smaller of a number of entries and 128, as many as a network has blocks at most.
 fn at_most_128(room: usize) -> usize
-    ensures { λ r. ⌜ Least room 128 r ⌝ }
+    ensures { λ r. ⌜ r ≡ min room 128 ⌝ }
 {
     if room < 128 {
         return room;
@@ -60,7 +55,7 @@ fn numbered(words: &[u16], table: &mut [u16], room: usize) -> Numbers
 // The outputs that a number of a list spells.
 fn outputs_of(numbers: &[u16], k: usize) -> Outputs
     requires { ⌜ k < length (now numbers) ⌝ }
-    ensures { λ r. ⌜ r ≡ unpack (getD (now (numbers .entry)) k 0) ⌝ }
+    ensures { λ r. ⌜ r ≡ unpacked (getD (now (numbers .entry)) k 0) ⌝ }
 {
     let number = numbers[k];
     Outputs {
@@ -73,7 +68,7 @@ fn outputs_of(numbers: &[u16], k: usize) -> Outputs
 // The first numbers as records at the front of a list.
 fn fill(outputs: &mut [Outputs], numbers: &[u16], count: usize)
     requires { ⌜ (count ≤ length (now outputs)) × (count ≤ length (now numbers)) ⌝ }
-    ensures { λ _. ⌜ now (outputs .exit) ≡ map unpack (take count (now (numbers .entry))) ++ drop count (now (outputs .entry)) ⌝ }
+    ensures { λ _. ⌜ now (outputs .exit) ≡ map unpacked (take count (now (numbers .entry))) ++ drop count (now (outputs .entry)) ⌝ }
 {
     let mut k = 0;
     while k < count {

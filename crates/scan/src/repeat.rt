@@ -5,7 +5,7 @@ use bits::Verdict;
 use network::Opened;
 ghost use mathlib.Core.Path.{_≡_};
 ghost use Rattle.bits.specs.Promise.{LeavesThree};
-ghost use Rattle.network.specs.Check.{opened};
+ghost use Rattle.network.specs.Check.{opened, network-in};
 ghost use Rattle.scan.specs.Scans.{scans-verdict, scans-left, scans-packed, scans-marked};
 ghost use Rattle.scan.specs.Inner.{Repeatable, Repeated};
 
@@ -21,7 +21,7 @@ pub(crate) fn run_times(
 )
     requires { ⌜ Repeatable (now words) o (now table) times (now outputs) (now pointers) ⌝ }
     ensures { λ _. ⌜
-        Repeated (now (words .entry)) times
+        Repeated (network-in (now (words .entry))) times
         (now (table .entry)) (now (outputs .entry)) (now (pointers .entry))
         (now (table .exit)) (now (outputs .exit)) (now (pointers .exit)) ⌝ }
 {

@@ -4,6 +4,7 @@ use crate::pointer::either;
 use crate::pointer::next;
 use crate::pointer::put_pointer;
 use crate::pointer::set_to;
+use blocks::Outputs;
 use blocks::Power;
 use matrix::Answer;
 use matrix::Pointer;
@@ -46,20 +47,20 @@ pub(crate) fn modify(
     d: usize,
     n: usize,
     on: Power,
-) -> Power
+) -> Outputs
     requires { ⌜ Accepted longest (length (now table)) n d d × (held ≡ true → p < length (now table)) ⌝ }
     ensures { λ r. ⌜ Does on (modified-at held at (now (table .entry)) d n on) d p (now (table .entry)) r (now (table .exit)) ⌝ }
 {
     let size = (16 * n) as u16;
     if !on.top {
-        return Power {
+        return Outputs {
             top: on.top,
             middle: false,
             bottom: false,
         };
     }
     if size < at {
-        return Power {
+        return Outputs {
             top: on.top,
             middle: false,
             bottom: true,
@@ -68,7 +69,7 @@ pub(crate) fn modify(
     put_at(table, d, n, at, on.middle);
     let increase = both(held, on.bottom);
     put_pointer(table, p, increase, next(increase, Pointer { at, size }));
-    Power {
+    Outputs {
         top: on.top,
         middle: both(on.middle, at != 0),
         bottom: false,
@@ -84,7 +85,7 @@ pub(crate) fn sense(
     s: usize,
     n: usize,
     on: Power,
-) -> Power
+) -> Outputs
     requires { ⌜ Accepted longest (length (now table)) n s s × (held ≡ true → p < length (now table)) ⌝ }
     ensures { λ r. ⌜ Does on (sensed-at held at (now (table .entry)) s n on) s p (now (table .entry)) r (now (table .exit)) ⌝ }
 {
@@ -93,14 +94,14 @@ pub(crate) fn sense(
     let pointer = set_to(1, reset, Pointer { at, size });
     if !on.top {
         put_pointer(table, p, reset, pointer.at);
-        return Power {
+        return Outputs {
             top: on.top,
             middle: false,
             bottom: false,
         };
     }
     if size < pointer.at {
-        return Power {
+        return Outputs {
             top: on.top,
             middle: false,
             bottom: true,
@@ -109,7 +110,7 @@ pub(crate) fn sense(
     let sensed = bit(table, s, n, pointer.at);
     let increase = both(held, on.middle);
     put_pointer(table, p, either(increase, reset), next(increase, pointer));
-    Power {
+    Outputs {
         top: on.top,
         middle: sensed,
         bottom: false,

@@ -1,4 +1,5 @@
 // AND, OR, XOR, COMP and BROT: a whole matrix goes to the destination.
+use blocks::Outputs;
 use blocks::Power;
 use matrix::Answer;
 use matrix::Operation;
@@ -15,11 +16,11 @@ pub(crate) fn logic(
     d: usize,
     n: usize,
     on: Power,
-) -> Power
+) -> Outputs
     requires { ⌜ Accepted longest-whole (length (now table)) n s d ⌝ }
     ensures { λ r. ⌜ Does on (combined-at operation (now (table .entry)) s d n on) d s (now (table .entry)) r (now (table .exit)) ⌝ }
 {
-    let out = Power {
+    let out = Outputs {
         top: on.top,
         middle: false,
         bottom: false,
@@ -31,11 +32,11 @@ pub(crate) fn logic(
 }
 
 // The n words from s on moved one position: left with power on middle, the bit that leaves entering with power on bottom.
-pub(crate) fn rotate(table: &mut [u16], s: usize, d: usize, n: usize, on: Power) -> Power
+pub(crate) fn rotate(table: &mut [u16], s: usize, d: usize, n: usize, on: Power) -> Outputs
     requires { ⌜ Accepted longest-whole (length (now table)) n s d ⌝ }
     ensures { λ r. ⌜ Does on (rotated-at (now (table .entry)) s n on) d s (now (table .entry)) r (now (table .exit)) ⌝ }
 {
-    let off = Power {
+    let off = Outputs {
         top: on.top,
         middle: false,
         bottom: false,
@@ -46,7 +47,7 @@ pub(crate) fn rotate(table: &mut [u16], s: usize, d: usize, n: usize, on: Power)
     let Answer::Bit(left) = matrix::move_one(table, s, d, n, on.middle, on.bottom) else {
         return off;
     };
-    Power {
+    Outputs {
         top: on.top,
         middle: left,
         bottom: false,

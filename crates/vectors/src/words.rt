@@ -5,10 +5,14 @@ use network::Input;
 use network::Inputs;
 use network::Node;
 use network::Sizes;
+use section::word;
 ghost use mathlib.Core.Path.{_≡_};
-ghost use Prim.Native.Nat.{min};
-ghost use Rattle.network.specs.Record.{word, block-at};
-ghost use Rattle.vectors.specs.Words.{sizes-at, no-blocks, count, added};
+ghost use Prim.Native.Nat.{_<_, min};
+ghost use mathlib.Core.List.{_++_};
+ghost use lib.ListN.{drop, replicate};
+ghost use Rattle.network.specs.Record.{node-in, input-in, block-in};
+ghost use Rattle.network.specs.Network.{areas-only, block-count, words-of};
+ghost use Rattle.network.specs.Check.{sizes-in, network-in};
 
 // The most blocks of a network here.
 const MOST_BLOCKS: u16 = 12;
@@ -21,19 +25,9 @@ pub(crate) const AREAS: Sizes = Sizes {
     holding: 820,
 };
 
-// The word at an index, or 0 where there is none.
-fn word_at(words: &[u16], i: usize) -> u16
-    ensures { λ r. ⌜ r ≡ word (now (words .entry)) i ⌝ }
-{
-    if i < words.len() {
-        return words[i];
-    }
-    0
-}
-
 // The areas that the first four words of a row spell.
 pub(crate) fn sizes_of(row: [u16; 40]) -> Sizes
-    ensures { λ r. ⌜ r ≡ sizes-at row 0 ⌝ }
+    ensures { λ r. ⌜ r ≡ sizes-in row ⌝ }
 {
     Sizes {
         coils: row[0],
@@ -45,7 +39,7 @@ pub(crate) fn sizes_of(row: [u16; 40]) -> Sizes
 
 // The areas of a network.
 pub(crate) fn areas_of(words: [u16; 186]) -> Sizes
-    ensures { λ r. ⌜ r ≡ sizes-at words 1 ⌝ }
+    ensures { λ r. ⌜ r ≡ network-in words .sizes ⌝ }
 {
     Sizes {
         coils: words[1],
@@ -55,49 +49,52 @@ pub(crate) fn areas_of(words: [u16; 186]) -> Sizes
     }
 }
 
-fn node(given: &[u16], class: usize, number: usize) -> Node
-    ensures { λ r. ⌜ (r .class ≡ word (now (given .entry)) class) × (r .number ≡ word (now (given .entry)) number) ⌝ }
+// What stands in the given words from an index on: a node, an input.
+fn node(given: &[u16], at: usize) -> Node
+    requires { ⌜ at < 15 ⌝ }
+    ensures { λ r. ⌜ r ≡ node-in (drop at (now (given .entry))) ⌝ }
 {
     Node {
-        class: word_at(given, class),
-        number: word_at(given, number),
+        class: word(given, at),
+        number: word(given, at + 1),
     }
 }
 
-fn input(given: &[u16], code: usize, number: usize) -> Input
-    ensures { λ r. ⌜ (r .code ≡ word (now (given .entry)) code) × (r .number ≡ word (now (given .entry)) number) ⌝ }
+fn input(given: &[u16], at: usize) -> Input
+    requires { ⌜ at < 15 ⌝ }
+    ensures { λ r. ⌜ r ≡ input-in (drop at (now (given .entry))) ⌝ }
 {
     Input {
-        code: word_at(given, code),
-        number: word_at(given, number),
+        code: word(given, at),
+        number: word(given, at + 1),
     }
 }
 
 // The record that 15 words spell; those after the given ones are 0.
 pub(crate) fn block_of(given: &[u16]) -> Block
-    ensures { λ r. ⌜ r ≡ block-at (now (given .entry)) 0 ⌝ }
+    ensures { λ r. ⌜ r ≡ block-in (now (given .entry)) ⌝ }
 {
     Block {
-        kind: word_at(given, 0),
-        n: word_at(given, 1),
-        top: node(given, 2, 3),
-        middle: node(given, 4, 5),
+        kind: word(given, 0),
+        n: word(given, 1),
+        top: node(given, 2),
+        middle: node(given, 4),
         inputs: Inputs {
-            top: input(given, 6, 7),
-            middle: input(given, 8, 9),
-            bottom: input(given, 10, 11),
+            top: input(given, 6),
+            middle: input(given, 8),
+            bottom: input(given, 10),
         },
         coils: Coils {
-            top: word_at(given, 12),
-            middle: word_at(given, 13),
-            bottom: word_at(given, 14),
+            top: word(given, 12),
+            middle: word(given, 13),
+            bottom: word(given, 14),
         },
     }
 }
 
 // A network of these areas without blocks; the words after it are 0.
 pub(crate) fn no_blocks(sizes: Sizes) -> [u16; 186]
-    ensures { λ r. ⌜ r ≡ no-blocks sizes ⌝ }
+    ensures { λ r. ⌜ r ≡ words-of (areas-only sizes) ++ replicate 180 0 ⌝ }
 {
     let mut words = [0u16; 186];
     words[0] = 4;
@@ -121,7 +118,7 @@ pub(crate) fn at_most(n: u32, most: usize) -> usize
 
 // How many blocks a network has.
 pub(crate) fn count_of(words: &[u16; 186]) -> usize
-    ensures { λ r. ⌜ r ≡ count (now (words .entry)) ⌝ }
+    ensures { λ r. ⌜ r ≡ min (block-count (network-in (now (words .entry)))) 12 ⌝ }
 {
     let blocks = words[5];
     if blocks < MOST_BLOCKS {
@@ -131,9 +128,7 @@ pub(crate) fn count_of(words: &[u16; 186]) -> usize
 }
 
 // The network with one more block, whose record the first 15 words of a row spell.
-pub(crate) fn add(words: [u16; 186], row: [u16; 40]) -> [u16; 186]
-    ensures { λ r. ⌜ r ≡ added words row ⌝ }
-{
+pub(crate) fn add(words: [u16; 186], row: [u16; 40]) -> [u16; 186] {
     let mut longer = words;
     let blocks = count_of(&words);
     if MOST_BLOCKS as usize <= blocks {

@@ -6,6 +6,7 @@ use native.Mathlib.Omega.{arith}
 use borrow.Author.Needs.{needs}
 use denote.Ref.{now}
 use lib.ListN.{length, take, drop, set}
+use Rattle.network.specs.Network.{areas-only}
 use Rattle.blocks.specs.Work.{block-outputs, block-table}
 use Rattle.blocks.proofs.Written.{same-long}
 use Rattle.scan.specs.Input.{power-on}
@@ -20,7 +21,7 @@ so-many : (first k : ℕ) → first + k - first ≡ k
 so-many first k = omega arith
 
 -- the block and the table that it left
-ran-ready : (c : tie.After-run) → let x = c .before .before .before .before .before .before .before .before .before .args in Ready (x .sizes) (x .one) (c .run .last .0)
+ran-ready : (c : tie.After-run) → let x = c .before .before .before .before .before .before .before .before .before .args in Ready (areas-only (x .sizes)) (x .one) (c .run .last .0)
 ran-ready c =
     let b = c .before .before .before .before .before .before .before .before .before in
     let x = b .args in
@@ -30,7 +31,7 @@ ran-ready c =
         good = b .pre .runs .good;
         exact =
             ap length (c .run .ensures .leaves)
-            ∙ same-long (x .sizes) (x .k) (x .one .block) (now (x .table)) (b .pre .runs) (c .before .before .power-on .result)
+            ∙ same-long (areas-only (x .sizes)) (x .k) (x .one .block) (now (x .table)) (b .pre .runs) (c .before .before .power-on .result)
             ∙ b .pre .runs .exact;
       };
       lies = b .pre .lies;
@@ -56,8 +57,8 @@ power-on-requires : tie.Need-power-on-requires
 power-on-requires c κs =
     let b = c .before .before .before .before .before .before in
     let x = b .args in (
-      next-contacts (x .sizes) (x .one) (now (x .table)) (now (x .outputs)) (now (x .pointers)) (x .first) (x .k) (b .pre),
-      next-inputs (x .sizes) (x .one) (now (x .table)) (now (x .outputs)) (now (x .pointers)) (x .first) (x .k) (b .pre) (so-many (x .first) (x .k)),
+      next-contacts (areas-only (x .sizes)) (x .one) (now (x .table)) (now (x .outputs)) (now (x .pointers)) (x .first) (x .k) (b .pre),
+      next-inputs (areas-only (x .sizes)) (x .one) (now (x .table)) (now (x .outputs)) (now (x .pointers)) (x .first) (x .k) (b .pre) (so-many (x .first) (x .k)),
     )
 
 run-requires : tie.Need-run-requires
@@ -77,7 +78,7 @@ slice-write-outputs c = search needs
 pointer-of-requires : tie.Need-pointer-of-requires
 pointer-of-requires c κs =
     let ran = c .before .before .before .before in
-    record { sizes = ran .before .before .before .before .before .before .before .before .before .args .sizes; ready = ran-ready ran }
+    record { network = areas-only (ran .before .before .before .before .before .before .before .before .before .args .sizes); ready = ran-ready ran }
 
 mul-pointers : tie.Need-mul-pointers
 mul-pointers c = search needs
@@ -101,13 +102,13 @@ returns c =
     let t = now (x .table) in
     let on =
     ran .before .before .power-on .ensures
-    ∙ ap (λ (m : ℕ). power-on (x .sizes) t (map unpacked (take m (drop (x .first) (now (x .outputs))))) (x .one .block .inputs)) (so-many (x .first) (x .k)) in
+    ∙ ap (λ (m : ℕ). power-on (areas-only (x .sizes)) t (map unpacked (take m (drop (x .first) (now (x .outputs))))) (x .one .block .inputs)) (so-many (x .first) (x .k)) in
     record {
-      table-after = ran .run .ensures .leaves ∙ ap (block-table (x .sizes) (x .one .block) t) on;
+      table-after = ran .run .ensures .leaves ∙ ap (block-table (areas-only (x .sizes)) (x .one .block) t) on;
       entry-after =
           ap (set (now (x .outputs)) (x .first + x .k))
-          (c .before .before .packed .ensures ∙ ap packed (ran .run .ensures .answers ∙ ap (block-outputs (x .sizes) (x .one .block) t) on));
-      mark-after = ap (set (now (x .pointers)) (x .first + x .k)) (c .pointer-of .ensures (x .sizes) (ran-ready ran));
+          (c .before .before .packed .ensures ∙ ap packed (ran .run .ensures .answers ∙ ap (block-outputs (areas-only (x .sizes)) (x .one .block) t) on));
+      mark-after = ap (set (now (x .pointers)) (x .first + x .k)) (c .pointer-of .ensures (areas-only (x .sizes)) (ran-ready ran));
     }
 
 pub run-one-spec : {M : Type 1} → statement M

@@ -3,7 +3,7 @@ use borrow.Author.Needs.{needs}
 use native.Mathlib.Omega.{arith}
 use mathlib.Core.Path.{sym}
 use Rattle.benchfile.proofs.Putting.{put-as}
-use Rattle.benchfile.proofs.Printing.{no-pointer, pointer-shown}
+use Rattle.benchfile.proofs.Printing.{no-pointer-low, no-pointer-high, pointer-shown}
 use Rattle.benchfile.proofs.lines.put_pointer.Statement.{statement}
 use Rattle.benchfile.proofs.lines.put_pointer.Tie as tie
 
@@ -16,7 +16,7 @@ same-length c = search needs
 returns : tie.Need-returns
 returns c =
     let x = c .before .before .before .before .before .before .args in
-    put-as (omega arith) (sym (no-pointer (x .kind) (x .pointer) (λ e. omega arith) (λ e. omega arith) (λ e. omega arith))) (c .before .before .put-byte .ensures)
+    put-as (omega arith) (sym (no-pointer-low (x .kind) (x .pointer) (c .before .before .before .before .if1 .taken))) (c .before .before .put-byte .ensures)
 
 put-byte-requires-2 : tie.Need-put-byte-requires-2
 put-byte-requires-2 c κs = search needs
@@ -27,7 +27,7 @@ same-length-2 c = search needs
 returns-2 : tie.Need-returns-2
 returns-2 c =
     let x = c .before .before .before .before .before .before .before .args in
-    put-as (omega arith) (sym (no-pointer (x .kind) (x .pointer) (λ e. omega arith) (λ e. omega arith) (λ e. omega arith))) (c .before .before .put-byte2 .ensures)
+    put-as (omega arith) (sym (no-pointer-high (x .kind) (x .pointer) (c .before .before .before .before .before .if1 .left) (c .before .before .before .before .if2 .taken))) (c .before .before .put-byte2 .ensures)
 
 put-number-requires : tie.Need-put-number-requires
 put-number-requires c κs = search needs

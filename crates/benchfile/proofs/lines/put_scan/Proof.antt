@@ -7,8 +7,9 @@ use Prim.Native.Nat.{_+_, _-_, _*_, _≤_, _<_}
 use lib.ListN.{length}
 use Rattle.network.specs.declared.block.Block.{Block}
 use Rattle.network.specs.declared.checker.Opened.{Opened}
-use Rattle.network.specs.Record.{word, block-at}
-use Rattle.network.specs.Check.{opened, checked, block-start}
+use Rattle.network.specs.Network.{block-count, block-of}
+use Rattle.network.specs.Check.{network-in, opened, checked}
+use Rattle.network.proofs.Values.{accepted-good}
 use Rattle.scan.proofs.Scanning.{is-next, is-read}
 use Rattle.benchfile.specs.Inner.{Put, entry-lines}
 use Rattle.benchfile.proofs.Putting.{put-none, put-long, put-as}
@@ -18,18 +19,18 @@ use Rattle.benchfile.proofs.lines.put_scan.Tie as tie
 
 abbrev Inv-loop : tie.InvT-loop
 Inv-loop text₀ at words o scan packs marks first count next₀ k₀ text next k =
-    (o ≡ opened words) × (checked words .number ≡ 0) × (count ≡ word words 5) × (first + word words 5 ≤ length packs) × (first + word words 5 ≤ length marks)
-    × (at + 32 * word words 5 ≤ length text₀) × (k ≤ word words 5) × Put (32 * k) text₀ at (entry-lines words packs marks scan first k) next text
+    (o ≡ opened words) × (checked words .number ≡ 0) × (count ≡ block-count (network-in words)) × (first + block-count (network-in words) ≤ length packs) × (first + block-count (network-in words) ≤ length marks)
+    × (at + 32 * block-count (network-in words) ≤ length text₀) × (k ≤ block-count (network-in words)) × Put (32 * k) text₀ at (entry-lines (network-in words) packs marks scan first k) next text
 
 abbrev μ-loop : tie.MeasureT-loop
 μ-loop text₀ at words o scan packs marks first count next₀ k₀ text next k = count - k
 
 -- the loop goes on while there are blocks
-below : (c : tie.In-loop Inv-loop μ-loop) → c .before .loop .k < word (now (c .before .before .before .before .before .before .args .words)) 5
+below : (c : tie.In-loop Inv-loop μ-loop) → c .before .loop .k < block-count (network-in (now (c .before .before .before .before .before .before .args .words)))
 below c = omega (arith, c .before .loop .inv .2)
 
 -- the record that was read is the next block's
-next-kind : (c : tie.After-block Inv-loop μ-loop) → c .block .given .0 .0 .kind ≡ block-at (now (c .before .before .before .before .before .before .before .before .before .args .words)) (block-start (c .before .before .before .before .loop .k)) .kind
+next-kind : (c : tie.After-block Inv-loop μ-loop) → c .block .given .0 .0 .kind ≡ block-of (network-in (now (c .before .before .before .before .before .before .before .before .before .args .words))) (c .before .before .before .before .loop .k) .kind
 next-kind c =
     let v = c .before .before .before .before .loop .inv in
     let x = c .before .before .before .before .before .before .before .before .before .args in
@@ -37,7 +38,7 @@ next-kind c =
     (is-next (now (x .words)) (x .o) (c .before .before .before .before .loop .k) (v .0) (v .1) (below (c .before .before .before)) (sym (c .before .before .record-at .ensures) ∙ c .block .given .1))
 
 loop-holds : tie.Need-loop-holds Inv-loop μ-loop
-unfolding opened entry-lines
+unfolding entry-lines
 loop-holds c =
     let b = c .before .before .before .before in
     let p = b .pre in (
@@ -79,7 +80,7 @@ add-entry : tie.Need-add-entry Inv-loop μ-loop
 add-entry c = omega (arith, below (c .before .before .before .before), c .before .before .before .before .before .loop .inv .3, c .before .before .before .before .before .before .before .before .before .before)
 
 add-put-line : tie.Need-add-put-line Inv-loop μ-loop
-add-put-line c = omega (arith, below (c .before .before .before .before .before), c .before .before .before .before .before .before .before .before .before .shared-slice-known .given 5)
+add-put-line c = omega (arith, below (c .before .before .before .before .before), accepted-good _ (c .before .before .before .before .before .before .loop .inv .1) .few)
 
 mul-put-line : tie.Need-mul-put-line Inv-loop μ-loop
 mul-put-line c = omega (arith, below (c .before .before .before .before .before), c .before .before .before .before .before .before .loop .inv .3, c .before .before .before .before .before .before .before .before .before .before .before)
@@ -99,7 +100,7 @@ put-line-requires c κs =
     omega (arith, below (c .before .before .before .before .before .before .before), v .5, v .7 .few, v .7 .reaches, put-long (v .7))
 
 add-k : tie.Need-add-k Inv-loop μ-loop
-add-k c = omega (arith, below (c .before .before .before .before .before .before .before .before .before .before), c .before .before .before .before .before .before .before .before .before .before .before .before .before .before .shared-slice-known .given 5)
+add-k c = omega (arith, below (c .before .before .before .before .before .before .before .before .before .before), accepted-good _ (c .before .before .before .before .before .before .before .before .before .before .before .loop .inv .1) .few)
 
 loop-less : tie.Need-loop-less Inv-loop μ-loop
 loop-less c = omega arith
@@ -115,7 +116,7 @@ loop-again c =
       v .4,
       v .5,
       omega (arith, below (c .before .before .before .before .before .before .before .before .before .before)),
-      line-more (now (x .words)) (now (x .packs)) (now (x .marks)) (x .scan) (x .first) (c .before .before .before .before .before .before .before .before .before .before .before .loop .k) (next-kind (c .before .before .before .before .before .before .before)) (v .7) (c .before .before .put-line .ensures),
+      line-more (network-in (now (x .words))) (now (x .packs)) (now (x .marks)) (x .scan) (x .first) (c .before .before .before .before .before .before .before .before .before .before .before .loop .k) (next-kind (c .before .before .before .before .before .before .before)) (v .7) (c .before .before .put-line .ensures),
     )
 
 same-length-2 : tie.Need-same-length-2 Inv-loop μ-loop
@@ -125,8 +126,8 @@ returns-2 : tie.Need-returns-2 Inv-loop μ-loop
 returns-2 c =
     let v = c .before .loop .inv in
     let x = c .before .before .before .before .before .before .args in
-    let all : c .before .loop .k ≡ word (now (x .words)) 5 = omega (arith, v .2, v .6, c .loop-test .left) in
-    put-as (omega arith) (ap (entry-lines (now (x .words)) (now (x .packs)) (now (x .marks)) (x .scan) (x .first)) all) (v .7)
+    let all : c .before .loop .k ≡ block-count (network-in (now (x .words))) = omega (arith, v .2, v .6, c .loop-test .left) in
+    put-as (omega arith) (ap (entry-lines (network-in (now (x .words))) (now (x .packs)) (now (x .marks)) (x .scan) (x .first)) all) (v .7)
 
 pub put-scan-spec : {M : Type 1} → statement M
 put-scan-spec =

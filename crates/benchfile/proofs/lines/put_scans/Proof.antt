@@ -6,8 +6,8 @@ use mathlib.Core.Path.{_≡_, ap}
 use Prim.Native.Nat.{ℕ, _+_, _-_, _*_, _≤_}
 use lib.ListN.{length}
 use Rattle.network.specs.declared.checker.Opened.{Opened}
-use Rattle.network.specs.Record.{word}
-use Rattle.network.specs.Check.{opened, checked}
+use Rattle.network.specs.Network.{block-count}
+use Rattle.network.specs.Check.{network-in, opened, checked}
 use Rattle.scan.proofs.Repeating.{next-room}
 use Rattle.benchfile.specs.Inner.{Put, entries}
 use Rattle.benchfile.proofs.Putting.{put-none, put-long, put-as}
@@ -17,25 +17,25 @@ use Rattle.benchfile.proofs.lines.put_scans.Tie as tie
 
 abbrev Inv-loop : tie.InvT-loop
 Inv-loop text₀ at words o from times packs marks count next₀ j₀ text next j =
-    (o ≡ opened words) × (checked words .number ≡ 0) × (count ≡ word words 5) × (from + times ≤ 65535) × (times * word words 5 ≤ length packs)
-    × (times * word words 5 ≤ length marks) × (at + 32 * (times * word words 5) ≤ length text₀) × (j ≤ times)
-    × Put (32 * (j * word words 5)) text₀ at (entries words packs marks from j) next text
+    (o ≡ opened words) × (checked words .number ≡ 0) × (count ≡ block-count (network-in words)) × (from + times ≤ 65535) × (times * block-count (network-in words) ≤ length packs)
+    × (times * block-count (network-in words) ≤ length marks) × (at + 32 * (times * block-count (network-in words)) ≤ length text₀) × (j ≤ times)
+    × Put (32 * (j * block-count (network-in words))) text₀ at (entries (network-in words) packs marks from j) next text
 
 abbrev μ-loop : tie.MeasureT-loop
 μ-loop text₀ at words o from times packs marks count next₀ j₀ text next j = times - j
 
 -- where the next scan's entries start, and that they lie in the lists
 module _ (c : tie.In-loop Inv-loop μ-loop) where
-  first-is : c .before .loop .j * c .before .before .before .before .before .before .before .args .o .count ≡ c .before .loop .j * word (now (c .before .before .before .before .before .before .before .args .words)) 5
+  first-is : c .before .loop .j * c .before .before .before .before .before .before .before .args .o .count ≡ c .before .loop .j * block-count (network-in (now (c .before .before .before .before .before .before .before .args .words)))
   first-is = ap (λ (n : ℕ). c .before .loop .j * n) (c .before .loop .inv .2)
 
-  packs-room : c .before .loop .j * word (now (c .before .before .before .before .before .before .before .args .words)) 5 + word (now (c .before .before .before .before .before .before .before .args .words)) 5 ≤ length (now (c .before .before .before .before .before .before .before .args .packs))
-  packs-room = next-room (c .before .loop .j) (c .before .before .before .before .before .before .before .args .times) (word (now (c .before .before .before .before .before .before .before .args .words)) 5) (length (now (c .before .before .before .before .before .before .before .args .packs))) (c .loop-test .taken) (c .before .loop .inv .4)
+  packs-room : c .before .loop .j * block-count (network-in (now (c .before .before .before .before .before .before .before .args .words))) + block-count (network-in (now (c .before .before .before .before .before .before .before .args .words))) ≤ length (now (c .before .before .before .before .before .before .before .args .packs))
+  packs-room = next-room (c .before .loop .j) (c .before .before .before .before .before .before .before .args .times) (block-count (network-in (now (c .before .before .before .before .before .before .before .args .words)))) (length (now (c .before .before .before .before .before .before .before .args .packs))) (c .loop-test .taken) (c .before .loop .inv .4)
 
-  marks-room : c .before .loop .j * word (now (c .before .before .before .before .before .before .before .args .words)) 5 + word (now (c .before .before .before .before .before .before .before .args .words)) 5 ≤ length (now (c .before .before .before .before .before .before .before .args .marks))
-  marks-room = next-room (c .before .loop .j) (c .before .before .before .before .before .before .before .args .times) (word (now (c .before .before .before .before .before .before .before .args .words)) 5) (length (now (c .before .before .before .before .before .before .before .args .marks))) (c .loop-test .taken) (c .before .loop .inv .5)
+  marks-room : c .before .loop .j * block-count (network-in (now (c .before .before .before .before .before .before .before .args .words))) + block-count (network-in (now (c .before .before .before .before .before .before .before .args .words))) ≤ length (now (c .before .before .before .before .before .before .before .args .marks))
+  marks-room = next-room (c .before .loop .j) (c .before .before .before .before .before .before .before .args .times) (block-count (network-in (now (c .before .before .before .before .before .before .before .args .words)))) (length (now (c .before .before .before .before .before .before .before .args .marks))) (c .loop-test .taken) (c .before .loop .inv .5)
 
-  text-room : c .before .loop .next + 32 * word (now (c .before .before .before .before .before .before .before .args .words)) 5 ≤ length (c .before .loop .text)
+  text-room : c .before .loop .next + 32 * block-count (network-in (now (c .before .before .before .before .before .before .before .args .words))) ≤ length (c .before .loop .text)
   text-room =
       let v = c .before .loop .inv in
       omega (
@@ -44,14 +44,14 @@ module _ (c : tie.In-loop Inv-loop μ-loop) where
         v .8 .few,
         v .8 .reaches,
         put-long (v .8),
-        next-room (c .before .loop .j) (c .before .before .before .before .before .before .before .args .times) (word (now (c .before .before .before .before .before .before .before .args .words)) 5) (c .before .before .before .before .before .before .before .args .times * word (now (c .before .before .before .before .before .before .before .args .words)) 5) (c .loop-test .taken) (omega arith),
+        next-room (c .before .loop .j) (c .before .before .before .before .before .before .before .args .times) (block-count (network-in (now (c .before .before .before .before .before .before .before .args .words)))) (c .before .before .before .before .before .before .before .args .times * block-count (network-in (now (c .before .before .before .before .before .before .before .args .words)))) (c .loop-test .taken) (omega arith),
       )
 
 cast-count : tie.Need-cast-count Inv-loop μ-loop
 cast-count c = search needs
 
 loop-holds : tie.Need-loop-holds Inv-loop μ-loop
-unfolding opened entries
+unfolding entries
 loop-holds c =
     let b = c .before .before .before .before .before in
     let p = b .pre in (
@@ -63,7 +63,7 @@ loop-holds c =
       p .marks-room,
       p .text-room,
       omega arith,
-      put-none (32 * (0 * word (now (b .args .words)) 5)) (now (b .args .text)) (b .args .at) (omega (arith, p .text-room)),
+      put-none (32 * (0 * block-count (network-in (now (b .args .words))))) (now (b .args .text)) (b .args .at) (omega (arith, p .text-room)),
     )
 
 cast-first : tie.Need-cast-first Inv-loop μ-loop
@@ -104,7 +104,7 @@ loop-again c =
       v .5,
       v .6,
       omega (arith, c .before .before .before .before .loop-test .taken),
-      scan-more (now (x .words)) (now (x .packs)) (now (x .marks)) (x .from) (c .before .before .before .before .before .loop .j) (first-is (c .before .before .before .before)) (v .8) (c .before .before .put-scan .ensures),
+      scan-more (network-in (now (x .words))) (now (x .packs)) (now (x .marks)) (x .from) (c .before .before .before .before .before .loop .j) (first-is (c .before .before .before .before)) (v .8) (c .before .before .put-scan .ensures),
     )
 
 same-length : tie.Need-same-length Inv-loop μ-loop
@@ -115,7 +115,7 @@ returns c =
     let v = c .before .loop .inv in
     let x = c .before .before .before .before .before .before .before .args in
     let all : c .before .loop .j ≡ x .times = omega (arith, v .7, c .loop-test .left) in
-    put-as (omega (arith, ap (λ (n : ℕ). n * word (now (x .words)) 5) all)) (ap (entries (now (x .words)) (now (x .packs)) (now (x .marks)) (x .from)) all) (v .8)
+    put-as (omega (arith, ap (λ (n : ℕ). n * block-count (network-in (now (x .words)))) all)) (ap (entries (network-in (now (x .words))) (now (x .packs)) (now (x .marks)) (x .from)) all) (v .8)
 
 pub put-scans-spec : {M : Type 1} → statement M
 put-scans-spec =

@@ -1,6 +1,9 @@
 -- `network::block::block_at` meets its contract. Assumes nothing.
 use borrow.Author.Needs.{needs}
-use Rattle.network.specs.Record.{block-at}
+use mathlib.Core.Path.{ap, _∙_}
+use denote.Ref.{now}
+use Rattle.network.specs.Record.{node-in, inputs-in, coils-in, block-in}
+use Rattle.section.proofs.Words.{word-here, word-from, rest-from}
 use Rattle.network.proofs.block.block_at.Statement.{statement}
 use Rattle.network.proofs.block.block_at.Tie as tie
 
@@ -38,15 +41,18 @@ coils-at-requires : tie.Need-coils-at-requires
 coils-at-requires c κs = search needs
 
 returns : tie.Need-returns
-unfolding block-at
+unfolding block-in
 returns c =
+    let x = c .before .before .before .before .before .before .before .args in
+    let from = word-from (now (x .words)) (x .at) in
+    let rest = rest-from (now (x .words)) (x .at) in
     λ i. record {
-      kind = c .before .before .before .before .before .word .ensures i;
-      n = c .before .before .before .before .word2 .ensures i;
-      top = c .before .before .before .node-at .ensures i;
-      middle = c .before .before .node-at2 .ensures i;
-      inputs = c .before .inputs-at .ensures i;
-      coils = c .coils-at .ensures i;
+      kind = (c .before .before .before .before .before .word .ensures ∙ word-here (now (x .words)) (x .at)) i;
+      n = (c .before .before .before .before .word2 .ensures ∙ from 1) i;
+      top = (c .before .before .before .node-at .ensures ∙ ap node-in (rest 2)) i;
+      middle = (c .before .before .node-at2 .ensures ∙ ap node-in (rest 4)) i;
+      inputs = (c .before .inputs-at .ensures ∙ ap inputs-in (rest 6)) i;
+      coils = (c .coils-at .ensures ∙ ap coils-in (rest 12)) i;
     }
 
 pub block-at-spec : {M : Type 1} → statement M

@@ -1,5 +1,8 @@
 -- `network::block::coils_at` meets its contract. Assumes nothing.
 use borrow.Author.Needs.{needs}
+use mathlib.Core.Path.{_∙_}
+use denote.Ref.{now}
+use Rattle.section.proofs.Words.{word-here, word-from}
 use Rattle.network.proofs.block.coils_at.Statement.{statement}
 use Rattle.network.proofs.block.coils_at.Tie as tie
 
@@ -19,7 +22,9 @@ word-requires-3 : tie.Need-word-requires-3
 word-requires-3 c κs = search needs
 
 returns : tie.Need-returns
-returns c = λ i. record { top = c .before .before .word .ensures i; middle = c .before .word2 .ensures i; bottom = c .word3 .ensures i }
+returns c =
+    let from = word-from (now (c .before .before .before .before .args .words)) (c .before .before .before .before .args .at) in
+    λ i. record { top = (c .before .before .word .ensures ∙ word-here (now (c .before .before .before .before .args .words)) (c .before .before .before .before .args .at)) i; middle = (c .before .word2 .ensures ∙ from 1) i; bottom = (c .word3 .ensures ∙ from 2) i }
 
 pub coils-at-spec : {M : Type 1} → statement M
 coils-at-spec =

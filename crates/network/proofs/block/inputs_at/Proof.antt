@@ -1,5 +1,9 @@
 -- `network::block::inputs_at` meets its contract. Assumes nothing.
 use borrow.Author.Needs.{needs}
+use mathlib.Core.Path.{ap, _∙_}
+use denote.Ref.{now}
+use Rattle.network.specs.Record.{input-in}
+use Rattle.section.proofs.Words.{rest-from}
 use Rattle.network.proofs.block.inputs_at.Statement.{statement}
 use Rattle.network.proofs.block.inputs_at.Tie as tie
 
@@ -19,7 +23,9 @@ input-at-requires-3 : tie.Need-input-at-requires-3
 input-at-requires-3 c κs = search needs
 
 returns : tie.Need-returns
-returns c = λ i. record { top = c .before .before .input-at .ensures i; middle = c .before .input-at2 .ensures i; bottom = c .input-at3 .ensures i }
+returns c =
+    let from = rest-from (now (c .before .before .before .before .args .words)) (c .before .before .before .before .args .at) in
+    λ i. record { top = c .before .before .input-at .ensures i; middle = (c .before .input-at2 .ensures ∙ ap input-in (from 2)) i; bottom = (c .input-at3 .ensures ∙ ap input-in (from 4)) i }
 
 pub inputs-at-spec : {M : Type 1} → statement M
 inputs-at-spec =

@@ -1,77 +1,48 @@
--- `network::checker::blocks` meets its contract. The loop keeps that the first refusal from here on is the first of all. Assumes nothing.
+-- `network::checker::blocks` meets its contract: the count is judged, then the records. Assumes nothing.
+use borrow.Author.Needs.{needs}
 use native.Mathlib.Omega.{arith}
-use mathlib.Core.Path.{_≡_, ap, _∙_}
-use Prim.Native.Nat.{_-_, _≤_}
+use mathlib.Core.Path.{_≡_, ap, ap₂, _∙_}
+use mathlib.Core.Bool.{cond}
+use mathlib.Core.List.{List, [], _∷_}
+use Prim.Native.Nat.{ℕ}
 use denote.Ref.{now}
-use lib.ListN.{length}
-use Rattle.network.specs.declared.sizes.Sizes.{Sizes}
-use Rattle.network.specs.declared.block.Block.{Block}
-use Rattle.network.specs.Record.{block-at}
-use Rattle.network.specs.Check.{seek, fault-in, sizes-in, judged, block-start}
-use Rattle.network.proofs.Networks.{Blocks, no-block-yet, block-refused, block-passed, all-blocks, block-judged}
+use lib.Dec.{leb}
+use lib.ListN.{length, drop}
+use Rattle.section.specs.Walk.{word, seek}
+use Rattle.section.specs.Section.{section-earns, records-earn}
+use Rattle.section.proofs.Walk.{turn-refused, turn-passed}
+use Rattle.network.specs.Record.{record-words}
+use Rattle.network.specs.Check.{most-blocks, block-faults, blocks-section}
+use Rattle.section.proofs.Words.{word-from, rest-from}
 use Rattle.network.proofs.checker.blocks.Statement.{statement}
 use Rattle.network.proofs.checker.blocks.Tie as tie
 
-abbrev Inv-loop : tie.InvT-loop
-Inv-loop words sizes count j₀ j = (sizes ≡ sizes-in words) × (count ≤ 65535) × Blocks words count j
+-- the count that was judged is the blocks'
+counted : (c : tie.After-count) → let ws = now (c .before .before .args .words) in
+    c .count .result ≡ seek (cond (leb (word (drop 5 ws) 0) most-blocks) 0 2 ∷ []) (length ws) 5
+counted c =
+    let ws = now (c .before .before .args .words) in
+    c .count .ensures ∙ ap (λ (w : ℕ). seek (cond (leb w most-blocks) 0 2 ∷ []) (length ws) 5) (c .before .before .pre ∙ word-from ws 5 0)
 
-abbrev μ-loop : tie.MeasureT-loop
-μ-loop words sizes count j₀ j = count - j
+count-requires : tie.Need-count-requires
+count-requires c κs = search needs
 
--- the block that was judged is block j + 1 of these words
-here : (c : tie.After-judged Inv-loop μ-loop) → let ws = now (c .before .before .before .before .before .args .words) in
-    c .judged .result ≡ seek (fault-in ws) (length ws) (block-start (c .before .before .before .loop .j)) 15
-here c =
-    let ws = now (c .before .before .before .before .before .args .words) in
-    let j = c .before .before .before .loop .j in
-    c .judged .ensures
-    ∙ ap (λ (z : Sizes). judged z j (c .before .block-at .result) (block-start j) (length ws)) (c .before .before .before .loop .inv .0)
-    ∙ ap (λ (b : Block). judged (sizes-in ws) j b (block-start j) (length ws)) (c .before .block-at .ensures)
-    ∙ block-judged ws j
+returns : tie.Need-returns
+unfolding section-earns blocks-section
+returns c = let ws = now (c .before .before .before .before .args .words) in turn-refused (length ws) _ _ 5 (counted (c .before .before)) (c .if1 .taken)
 
-loop-holds : tie.Need-loop-holds Inv-loop μ-loop
-loop-holds c = (c .before .pre .1, c .before .pre .0, no-block-yet _ _)
+records-requires : tie.Need-records-requires
+records-requires c κs = search needs
 
-mul-at : tie.Need-mul-at Inv-loop μ-loop
-mul-at c = omega arith
-
-add-at : tie.Need-add-at Inv-loop μ-loop
-add-at c = omega arith
-
-block-at-requires : tie.Need-block-at-requires Inv-loop μ-loop
-block-at-requires c κs = omega arith
-
-judged-requires : tie.Need-judged-requires Inv-loop μ-loop
-judged-requires c κs = omega arith
-
-returns : tie.Need-returns Inv-loop μ-loop
-returns c = block-refused _ (c .before .before .before .before .before .loop .inv .2) (c .before .before .before .before .loop-test .taken) (here (c .before .before)) (c .if1 .taken)
-
-add-j : tie.Need-add-j Inv-loop μ-loop
-add-j c = omega arith
-
-loop-less : tie.Need-loop-less Inv-loop μ-loop
-loop-less c = omega arith
-
-loop-again : tie.Need-loop-again Inv-loop μ-loop
-loop-again c = let v = c .before .before .before .before .before .loop .inv in (v .0, v .1, block-passed _ (v .2) (c .before .before .before .before .loop-test .taken) (here (c .before .before)) (c .if1 .left))
-
-returns-2 : tie.Need-returns-2 Inv-loop μ-loop
-returns-2 c = all-blocks _ (c .before .loop .inv .2) (c .loop-test .left)
+returns-2 : tie.Need-returns-2
+unfolding section-earns blocks-section
+returns-2 c =
+    let x = c .before .before .before .before .before .args in
+    let ws = now (x .words) in
+    turn-passed (length ws) _ _ 5 (counted (c .before .before .before)) (c .before .if1 .left) (omega arith)
+    (c .records .ensures
+    ∙ ap₂ (λ (n : ℕ) (l : List ℕ). seek (records-earn record-words (block-faults (x .sizes)) 0 n l) (length ws) 6)
+    (c .before .before .before .before .before .pre ∙ word-from ws 5 0) (rest-from ws 5 1))
 
 pub blocks-spec : {M : Type 1} → statement M
-blocks-spec =
-    tie.close
-    (tie.spec
-    Inv-loop
-    μ-loop
-    loop-holds
-    mul-at
-    add-at
-    block-at-requires
-    judged-requires
-    returns
-    add-j
-    loop-less
-    loop-again
-    returns-2)
+blocks-spec = tie.close (tie.spec count-requires returns records-requires returns-2)

@@ -1,12 +1,15 @@
--- `network::checker::leading` meets its contract: the head is judged first, then the blocks. Assumes nothing.
+-- `network::checker::leading` meets its contract: the areas are judged first, then the blocks. Assumes nothing.
 use borrow.Author.Needs.{needs}
-use native.Mathlib.Omega.{arith}
-use mathlib.Core.Path.{ap, _∙_}
+use mathlib.Core.Path.{sym, ap, _∙_}
 use Prim.Native.Nat.{ℕ, _+_, _*_}
 use denote.Ref.{now}
-use lib.ListN.{length}
-use Rattle.network.specs.Check.{seek, fault-in, leading}
-use Rattle.network.proofs.Networks.{head-refused, head-passed}
+use lib.ListN.{length, drop}
+use Rattle.section.specs.Walk.{seek}
+use Rattle.section.specs.Section.{section-earns}
+use Rattle.network.specs.declared.sizes.Sizes.{Sizes}
+use Rattle.network.specs.Network.{areas-only}
+use Rattle.network.specs.Check.{blocks-section}
+use Rattle.network.proofs.Networks.{sizes-is, count-is, end-is, areas-refused, areas-passed}
 use Rattle.network.proofs.checker.leading.Statement.{statement}
 use Rattle.network.proofs.checker.leading.Tie as tie
 
@@ -25,36 +28,35 @@ mul-next c = search needs
 add-next : tie.Need-add-next
 add-next c = search needs
 
-head-requires : tie.Need-head-requires
-head-requires c κs = search needs
+areas-requires : tie.Need-areas-requires
+areas-requires c κs = search needs
 
 returns : tie.Need-returns
-unfolding leading
 returns c =
+    let ws = now (c .before .before .before .before .before .before .args .words) in
+    let counted = c .before .before .before .word .ensures in
     λ i. record {
-      verdict = head-refused (now (c .before .before .before .before .before .before .args .words)) (c .before .before .head .ensures) (c .if1 .taken) i;
-      sizes = c .before .before .before .before .sizes-in .ensures i;
-      count = c .before .before .before .word .ensures i;
-      next = 6 + 15 * c .before .before .before .word .ensures i;
+      verdict = areas-refused ws (c .before .before .areas .ensures) (c .if1 .taken) i;
+      sizes = (c .before .before .before .before .sizes-in .ensures ∙ sym (sizes-is ws)) i;
+      count = (counted ∙ sym (count-is ws)) i;
+      next = (ap (λ (n : ℕ). 6 + 15 * n) counted ∙ sym (end-is ws)) i;
     }
 
-cast-blocks : tie.Need-cast-blocks
-cast-blocks c = search needs
-
 blocks-requires : tie.Need-blocks-requires
-blocks-requires c κs = (omega arith, c .before .before .before .before .sizes-in .ensures)
+blocks-requires c κs = search needs
 
 returns-2 : tie.Need-returns-2
-unfolding leading
 returns-2 c =
     let ws = now (c .before .before .before .before .before .before .before .args .words) in
+    let sized = c .before .before .before .before .before .sizes-in .ensures in
+    let counted = c .before .before .before .before .word .ensures in
     λ i. record {
       verdict =
-          head-passed ws (c .before .before .before .head .ensures) (c .before .if1 .left)
-          (c .blocks2 .ensures ∙ ap (λ (n : ℕ). seek (fault-in ws) (length ws) 6 (15 * n)) (c .before .before .before .before .word .ensures)) i;
-      sizes = c .before .before .before .before .before .sizes-in .ensures i;
-      count = c .before .before .before .before .word .ensures i;
-      next = 6 + 15 * c .before .before .before .before .word .ensures i;
+          areas-passed ws (c .before .before .before .areas .ensures) (c .before .if1 .left)
+          (c .blocks2 .ensures ∙ ap (λ (z : Sizes). seek (section-earns blocks-section (areas-only z) (drop 5 ws)) (length ws) 5) sized) i;
+      sizes = (sized ∙ sym (sizes-is ws)) i;
+      count = (counted ∙ sym (count-is ws)) i;
+      next = (ap (λ (n : ℕ). 6 + 15 * n) counted ∙ sym (end-is ws)) i;
     }
 
 pub leading-spec : {M : Type 1} → statement M
@@ -66,8 +68,7 @@ leading-spec =
     cast-next
     mul-next
     add-next
-    head-requires
+    areas-requires
     returns
-    cast-blocks
     blocks-requires
     returns-2)

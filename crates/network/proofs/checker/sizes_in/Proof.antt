@@ -1,5 +1,8 @@
 -- `network::checker::sizes_in` meets its contract. Assumes nothing.
 use borrow.Author.Needs.{needs}
+use mathlib.Core.Path.{_∙_}
+use denote.Ref.{now}
+use Rattle.section.proofs.Words.{word-from}
 use Rattle.network.proofs.checker.sizes_in.Statement.{statement}
 use Rattle.network.proofs.checker.sizes_in.Tie as tie
 
@@ -16,7 +19,14 @@ word-requires-4 : tie.Need-word-requires-4
 word-requires-4 c κs = search needs
 
 returns : tie.Need-returns
-returns c = λ i. record { coils = c .before .before .before .word .ensures i; discretes = c .before .before .word2 .ensures i; inputs = c .before .word3 .ensures i; holding = c .word4 .ensures i }
+returns c =
+    let after = word-from (now (c .before .before .before .before .before .args .words)) 1 in
+    λ i. record {
+      coils = (c .before .before .before .word .ensures ∙ after 0) i;
+      discretes = (c .before .before .word2 .ensures ∙ after 1) i;
+      inputs = (c .before .word3 .ensures ∙ after 2) i;
+      holding = (c .word4 .ensures ∙ after 3) i;
+    }
 
 pub sizes-in-spec : {M : Type 1} → statement M
 sizes-in-spec =

@@ -1,32 +1,24 @@
 -- `network::fault::judged` meets its contract. The loop keeps that the first refusal from here on is the first of all. Assumes nothing.
 use borrow.Author.Needs.{needs}
 use native.Mathlib.Omega.{arith}
-use mathlib.Core.Path.{_≡_, sym, ap, _∙_}
-use Prim.Native.Nat.{_+_, _-_}
-use native.Mathlib.Nat.{add-sub-cancel-left}
-use Rattle.network.specs.Fault.{word-fault}
-use Rattle.network.proofs.Walk.{Reached, begun, stop-missing, stop-fault, go-on, passed}
+use Prim.Native.Nat.{_-_}
+use Rattle.section.proofs.Walk.{Reached, begun, stop-missing, stop-fault, go-on, passed}
+use Rattle.network.specs.Fault.{faults}
+use Rattle.network.proofs.Faults.{faults-long}
 use Rattle.network.proofs.fault.judged.Statement.{statement}
 use Rattle.network.proofs.fault.judged.Tie as tie
 
 abbrev Inv-loop : tie.InvT-loop
-Inv-loop sizes earlier block at size row q₀ q = Reached (λ i. word-fault sizes earlier block (i - at)) size at 15 q
+Inv-loop sizes earlier block at size row q₀ q = Reached (faults sizes earlier block) 15 size at q
 
 abbrev μ-loop : tie.MeasureT-loop
 μ-loop sizes earlier block at size row q₀ q = 15 - q
-
--- the word that was judged is word q of the record
-here : (c : tie.After-word-fault Inv-loop μ-loop) → let x = c .before .before .before .before .before .args in
-    c .word-fault .result ≡ word-fault (x .sizes) (x .earlier) (x .block) (x .at + c .before .before .before .loop .q - x .at)
-here c =
-    let x = c .before .before .before .before .before .args in
-    c .word-fault .ensures ∙ ap (word-fault (x .sizes) (x .earlier) (x .block)) (sym (add-sub-cancel-left (x .at) (c .before .before .before .loop .q)))
 
 rule-of-requires : tie.Need-rule-of-requires Inv-loop μ-loop
 rule-of-requires c κs = search needs
 
 loop-holds : tie.Need-loop-holds Inv-loop μ-loop
-loop-holds c = begun _ _ _ _
+loop-holds c = begun _ _ _ _ (faults-long _ _ _)
 
 add-i : tie.Need-add-i Inv-loop μ-loop
 add-i c = omega arith
@@ -41,7 +33,7 @@ word-fault-requires : tie.Need-word-fault-requires Inv-loop μ-loop
 word-fault-requires c κs = c .before .before .before .rule-of .ensures
 
 returns-2 : tie.Need-returns-2 Inv-loop μ-loop
-returns-2 c = stop-fault (c .before .before .before .before .loop .inv) (c .before .before .before .loop-test .taken) (c .before .before .if1 .left) (here (c .before)) (c .if2 .taken)
+returns-2 c = stop-fault (c .before .before .before .before .loop .inv) (c .before .before .before .loop-test .taken) (c .before .before .if1 .left) (c .before .word-fault .ensures) (c .if2 .taken)
 
 add-q : tie.Need-add-q Inv-loop μ-loop
 add-q c = omega arith
@@ -50,7 +42,7 @@ loop-less : tie.Need-loop-less Inv-loop μ-loop
 loop-less c = omega arith
 
 loop-again : tie.Need-loop-again Inv-loop μ-loop
-loop-again c = go-on (c .before .before .before .before .loop .inv) (c .before .before .before .loop-test .taken) (c .before .before .if1 .left) (sym (here (c .before)) ∙ c .if2 .left)
+loop-again c = go-on (c .before .before .before .before .loop .inv) (c .before .before .before .loop-test .taken) (c .before .before .if1 .left) (c .before .word-fault .ensures) (c .if2 .left)
 
 returns-3 : tie.Need-returns-3 Inv-loop μ-loop
 returns-3 c = passed (c .before .loop .inv) (c .loop-test .left)

@@ -3,17 +3,18 @@ use borrow.Author.Needs.{needs}
 use native.Mathlib.Omega.{arith}
 use mathlib.Core.Path.{_≡_, sym, ap, _∙_}
 use Prim.Native.Nat.{ℕ, zero, suc, _+_, _<_}
+use Rattle.section.specs.Walk.{word}
 use Rattle.network.specs.declared.sizes.Sizes.{Sizes}
 use Rattle.network.specs.declared.rules.Rule.{Rule}
 use Rattle.network.specs.declared.block.Block.{Block}
-use Rattle.network.specs.Fault.{counted, class-fault, number-fault, top-words, word-fault}
-use Rattle.network.proofs.Faults.{none-below, word-fault-past}
+use Rattle.network.specs.Fault.{counted, class-fault, number-fault, top-words, faults}
+use Rattle.network.proofs.Faults.{none-below, faults-past}
 use Rattle.network.proofs.fault.word_fault.Statement.{statement}
 use Rattle.network.proofs.fault.word_fault.Tie as tie
 
 -- an arm's word is word q
-arm : (z : Sizes) (earlier : ℕ) (b : Block) {r i q : ℕ} → r ≡ word-fault z earlier b i → q ≡ i → r ≡ word-fault z earlier b q
-arm z earlier b e p = e ∙ ap (word-fault z earlier b) (sym p)
+arm : (z : Sizes) (earlier : ℕ) (b : Block) {r i q : ℕ} → r ≡ word (faults z earlier b) i → q ≡ i → r ≡ word (faults z earlier b) q
+arm z earlier b e p = e ∙ ap (word (faults z earlier b)) (sym p)
 
 -- the last arm is for no word of the record
 other : (c : tie.At-match-rest) (i : ℕ) → i < 15 → c .before .before .before .args .q ≡ i → ⊥
@@ -140,67 +141,67 @@ up-to-requires-6 : tie.Need-up-to-requires-6
 up-to-requires-6 c κs = search needs
 
 returns : tie.Need-returns
-unfolding word-fault
+unfolding faults
 returns c = let x = c .before .before .before .before .before .args in arm (x .sizes) (x .earlier) (x .block) (c .counted .ensures) (c .before .before .match .keys1)
 
 returns-2 : tie.Need-returns-2
-unfolding word-fault
+unfolding faults
 returns-2 c = let x = c .before .before .before .before .before .before .args in arm (x .sizes) (x .earlier) (x .block) (c .counted2 .ensures ∙ ap (λ (r : Rule). counted (r .most) (x .block .n) 5) (c .before .before .before .before .before .before .pre)) (c .before .before .before .match .keys2)
 
 returns-3 : tie.Need-returns-3
-unfolding word-fault
+unfolding faults
 returns-3 c = let x = c .before .before .before .before .args in arm (x .sizes) (x .earlier) (x .block) (c .class-fault .ensures ∙ ap (λ (r : Rule). class-fault (r .top) (x .block .top .class)) (c .before .before .before .before .pre)) (c .before .match .keys3)
 
 returns-4 : tie.Need-returns-4
-unfolding word-fault
+unfolding faults
 returns-4 c = let x = c .before .before .before .before .before .args in arm (x .sizes) (x .earlier) (x .block) (c .number-fault .ensures ∙ ap (number-fault (x .sizes) (x .block .top)) (c .before .top-words .ensures) ∙ ap (λ (r : Rule). number-fault (x .sizes) (x .block .top) (top-words (r .pointer) (x .block .n))) (c .before .before .before .before .before .pre)) (c .before .before .match .keys4)
 
 returns-5 : tie.Need-returns-5
-unfolding word-fault
+unfolding faults
 returns-5 c = let x = c .before .before .before .before .args in arm (x .sizes) (x .earlier) (x .block) (c .class-fault2 .ensures ∙ ap (λ (r : Rule). class-fault (r .middle) (x .block .middle .class)) (c .before .before .before .before .pre)) (c .before .match .keys5)
 
 returns-6 : tie.Need-returns-6
-unfolding word-fault
+unfolding faults
 returns-6 c = let x = c .before .before .before .before .before .before .args in arm (x .sizes) (x .earlier) (x .block) (c .number-fault2 .ensures ∙ ap (λ (r : Rule). number-fault (x .sizes) (x .block .middle) (x .block .n + r .extra)) (c .before .before .before .before .before .before .pre)) (c .before .before .before .match .keys6)
 
 returns-7 : tie.Need-returns-7
-unfolding word-fault
+unfolding faults
 returns-7 c = let x = c .before .before .before .before .before .args in arm (x .sizes) (x .earlier) (x .block) (c .up-to .ensures) (c .before .before .match .keys7)
 
 returns-8 : tie.Need-returns-8
-unfolding word-fault
+unfolding faults
 returns-8 c = let x = c .before .before .before .before .args in arm (x .sizes) (x .earlier) (x .block) (c .input-fault .ensures) (c .before .match .keys8)
 
 returns-9 : tie.Need-returns-9
-unfolding word-fault
+unfolding faults
 returns-9 c = let x = c .before .before .before .before .before .args in arm (x .sizes) (x .earlier) (x .block) (c .up-to2 .ensures) (c .before .before .match .keys9)
 
 returns-10 : tie.Need-returns-10
-unfolding word-fault
+unfolding faults
 returns-10 c = let x = c .before .before .before .before .args in arm (x .sizes) (x .earlier) (x .block) (c .input-fault2 .ensures) (c .before .match .keys10)
 
 returns-11 : tie.Need-returns-11
-unfolding word-fault
+unfolding faults
 returns-11 c = let x = c .before .before .before .before .before .args in arm (x .sizes) (x .earlier) (x .block) (c .up-to3 .ensures) (c .before .before .match .keys11)
 
 returns-12 : tie.Need-returns-12
-unfolding word-fault
+unfolding faults
 returns-12 c = let x = c .before .before .before .before .args in arm (x .sizes) (x .earlier) (x .block) (c .input-fault3 .ensures) (c .before .match .keys12)
 
 returns-13 : tie.Need-returns-13
-unfolding word-fault
+unfolding faults
 returns-13 c = let x = c .before .before .before .before .before .before .args in arm (x .sizes) (x .earlier) (x .block) (c .up-to4 .ensures) (c .before .before .before .match .keys13)
 
 returns-14 : tie.Need-returns-14
-unfolding word-fault
+unfolding faults
 returns-14 c = let x = c .before .before .before .before .before .before .args in arm (x .sizes) (x .earlier) (x .block) (c .up-to5 .ensures) (c .before .before .before .match .keys14)
 
 returns-15 : tie.Need-returns-15
-unfolding word-fault
+unfolding faults
 returns-15 c = let x = c .before .before .before .before .before .before .args in arm (x .sizes) (x .earlier) (x .block) (c .up-to6 .ensures) (c .before .before .before .match .keys15)
 
 returns-16 : tie.Need-returns-16
-returns-16 c = let x = c .before .before .before .args in sym (word-fault-past (x .sizes) (x .earlier) (x .block) (x .q) (none-below 15 (x .q) (other c)))
+returns-16 c = let x = c .before .before .before .args in sym (faults-past (x .sizes) (x .earlier) (x .block) (x .q) (none-below 15 (x .q) (other c)))
 
 pub word-fault-spec : {M : Type 1} → statement M
 word-fault-spec =

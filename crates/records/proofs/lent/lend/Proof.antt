@@ -47,10 +47,10 @@ use Rattle.bits.proofs.Verdict as verdict
 use Rattle.bits.proofs.Verdict.Laws as verdict′
 use Rattle.network.proofs.Calls.{concludes}
 use Rattle.scan.specs.Records.{Recorded}
-use Rattle.scan.specs.declared.records.Outputs.{Outputs}
+use Rattle.blocks.specs.declared.Outputs.{Outputs}
 use Rattle.scan.proofs.Lending.{Cell}
-use Rattle.scan.proofs.records.Outputs as T
-use Rattle.scan.proofs.records.Outputs.Laws as T′
+use Rattle.blocks.proofs.Outputs as T
+use Rattle.blocks.proofs.Outputs.Laws as T′
 use Rattle.scan.proofs.scan as scan
 use Rattle.scan.proofs.scan.Symbol as scan-def
 use Rattle.scan.proofs.scan.Symbol.{name as #scan}

@@ -1,6 +1,7 @@
 -- `scan::coil::put_coils` meets its contract: one coil after the other. Assumes nothing.
 use mathlib.Core.Path.{ap, _∙_}
 use borrow.Author.Needs.{needs}
+use Rattle.network.specs.Network.{areas-only}
 use Rattle.blocks.specs.Work.{coil-put}
 use Rattle.scan.proofs.coil.put_coils.Statement.{statement}
 use Rattle.scan.proofs.coil.put_coils.Tie as tie
@@ -23,8 +24,8 @@ returns c =
     let first = second .before .before .before .before in
     let x = first .before .before .before .args in
     c .before .before .put-coil3 .ensures
-    ∙ ap (coil-put (x .sizes) (x .coils .bottom) (x .out .bottom))
-    (second .put-coil2 .ensures ∙ ap (coil-put (x .sizes) (x .coils .middle) (x .out .middle)) (first .put-coil .ensures))
+    ∙ ap (coil-put (areas-only (x .sizes)) (x .coils .bottom) (x .out .bottom))
+    (second .put-coil2 .ensures ∙ ap (coil-put (areas-only (x .sizes)) (x .coils .middle) (x .out .middle)) (first .put-coil .ensures))
 
 pub put-coils-spec : {M : Type 1} → statement M
 put-coils-spec =

@@ -6,7 +6,8 @@ use native.Mathlib.Omega.{arith}
 use borrow.Author.Needs.{needs}
 use denote.Ref.{now}
 use lib.ListN.{length}
-use Rattle.blocks.specs.declared.Power.{Power}
+use Rattle.network.specs.Network.{areas-only}
+use Rattle.blocks.specs.declared.Outputs.{Outputs}
 use Rattle.scan.specs.Scan.{unpacked}
 use Rattle.scan.proofs.Wired.{coil-lies, discrete-lies, by-code, code-is, code-eight, block-unpacked}
 use Rattle.scan.proofs.input.passes.Statement.{statement}
@@ -59,55 +60,55 @@ returns : tie.Need-returns
 unfolding by-code
 returns c =
     let x = c .before .before .before .before .before .args in
-    code-is (x .sizes) (now (x .table)) (map unpacked (now (x .outputs))) (x .input) 0 (c .match .keys1)
+    code-is (areas-only (x .sizes)) (now (x .table)) (map unpacked (now (x .outputs))) (x .input) 0 (c .match .keys1)
 
 returns-2 : tie.Need-returns-2
 unfolding by-code
 returns-2 c =
     let x = c .before .before .before .before .before .args in
-    code-is (x .sizes) (now (x .table)) (map unpacked (now (x .outputs))) (x .input) 1 (c .match .keys2)
+    code-is (areas-only (x .sizes)) (now (x .table)) (map unpacked (now (x .outputs))) (x .input) 1 (c .match .keys2)
 
 returns-3 : tie.Need-returns-3
 unfolding by-code
 returns-3 c =
     let x = c .before .before .before .before .before .before .args in
-    c .bit .ensures ∙ code-is (x .sizes) (now (x .table)) (map unpacked (now (x .outputs))) (x .input) 2 (c .before .match .keys3)
+    c .bit .ensures ∙ code-is (areas-only (x .sizes)) (now (x .table)) (map unpacked (now (x .outputs))) (x .input) 2 (c .before .match .keys3)
 
 returns-4 : tie.Need-returns-4
 unfolding by-code
 returns-4 c =
     let x = c .before .before .before .before .before .before .args in
-    ap not (c .bit2 .ensures) ∙ code-is (x .sizes) (now (x .table)) (map unpacked (now (x .outputs))) (x .input) 3 (c .before .match .keys4)
+    ap not (c .bit2 .ensures) ∙ code-is (areas-only (x .sizes)) (now (x .table)) (map unpacked (now (x .outputs))) (x .input) 3 (c .before .match .keys4)
 
 returns-5 : tie.Need-returns-5
 unfolding by-code
 returns-5 c =
     let x = c .before .before .before .before .before .before .args in
-    c .bit3 .ensures ∙ code-is (x .sizes) (now (x .table)) (map unpacked (now (x .outputs))) (x .input) 4 (c .before .match .keys5)
+    c .bit3 .ensures ∙ code-is (areas-only (x .sizes)) (now (x .table)) (map unpacked (now (x .outputs))) (x .input) 4 (c .before .match .keys5)
 
 returns-6 : tie.Need-returns-6
 unfolding by-code
 returns-6 c =
     let x = c .before .before .before .before .before .before .args in
-    ap not (c .bit4 .ensures) ∙ code-is (x .sizes) (now (x .table)) (map unpacked (now (x .outputs))) (x .input) 5 (c .before .match .keys6)
+    ap not (c .bit4 .ensures) ∙ code-is (areas-only (x .sizes)) (now (x .table)) (map unpacked (now (x .outputs))) (x .input) 5 (c .before .match .keys6)
 
 returns-7 : tie.Need-returns-7
 unfolding by-code
 returns-7 c =
     let x = c .before .before .before .before .before .before .args in
-    c .output .ensures ∙ sym (ap (λ (out : Power). out .top) (block-unpacked (now (x .outputs)) (x .input .number))) ∙ code-is (x .sizes) (now (x .table)) (map unpacked (now (x .outputs))) (x .input) 6 (c .before .match .keys7)
+    c .output .ensures ∙ sym (ap (λ (out : Outputs). out .top) (block-unpacked (now (x .outputs)) (x .input .number))) ∙ code-is (areas-only (x .sizes)) (now (x .table)) (map unpacked (now (x .outputs))) (x .input) 6 (c .before .match .keys7)
 
 returns-8 : tie.Need-returns-8
 unfolding by-code
 returns-8 c =
     let x = c .before .before .before .before .before .before .args in
-    c .output2 .ensures ∙ sym (ap (λ (out : Power). out .middle) (block-unpacked (now (x .outputs)) (x .input .number))) ∙ code-is (x .sizes) (now (x .table)) (map unpacked (now (x .outputs))) (x .input) 7 (c .before .match .keys8)
+    c .output2 .ensures ∙ sym (ap (λ (out : Outputs). out .middle) (block-unpacked (now (x .outputs)) (x .input .number))) ∙ code-is (areas-only (x .sizes)) (now (x .table)) (map unpacked (now (x .outputs))) (x .input) 7 (c .before .match .keys8)
 
 returns-9 : tie.Need-returns-9
 unfolding by-code
 returns-9 c =
     let x = c .before .before .before .before .before .before .args in
-    c .output3 .ensures ∙ sym (ap (λ (out : Power). out .bottom) (block-unpacked (now (x .outputs)) (x .input .number))) ∙ code-is (x .sizes) (now (x .table)) (map unpacked (now (x .outputs))) (x .input) 8 (eight (c .before))
+    c .output3 .ensures ∙ sym (ap (λ (out : Outputs). out .bottom) (block-unpacked (now (x .outputs)) (x .input .number))) ∙ code-is (areas-only (x .sizes)) (now (x .table)) (map unpacked (now (x .outputs))) (x .input) 8 (eight (c .before))
 
 pub passes-spec : {M : Type 1} → statement M
 passes-spec =

@@ -1,28 +1,27 @@
 -- `scan::located::blocks_of` meets its contract. The loop keeps that the first k entries are the records of the first k blocks. Assumes nothing.
-use mathlib.Core.Path.{_≡_, refl, sym, ap, _∙_, subst}
+use mathlib.Core.Path.{_≡_, refl, sym, _∙_, subst}
 use Prim.Native.Nat.{ℕ, _-_, _≤_, _<_}
 use native.Mathlib.Omega.{arith}
 use borrow.Author.Needs.{needs}
 use denote.Ref.{now}
 use lib.ListN.{length, length-set}
-use Rattle.network.specs.declared.checker.Opened.{Opened}
-use Rattle.network.specs.Record.{word}
-use Rattle.network.specs.Check.{opened, sizes-in}
-use Rattle.network.proofs.Accepted.{accepts-exactly}
+use Rattle.network.specs.Network.{block-count}
+use Rattle.network.specs.Check.{network-in}
+use Rattle.network.proofs.Values.{accepted-good}
 use Rattle.scan.specs.Inner.{Legible}
-use Rattle.scan.proofs.Scanning.{is-next, is-read}
+use Rattle.scan.proofs.Scanning.{sizes-are, count-is, is-next, is-read}
 use Rattle.scan.proofs.Locating.{Filled, one-filled, is-located}
 use Rattle.scan.proofs.located.blocks_of.Statement.{statement}
 use Rattle.scan.proofs.located.blocks_of.Tie as tie
 
 abbrev Inv-loop : tie.InvT-loop
-Inv-loop words o blocks₀ count sizes k₀ blocks k = Legible words o × (sizes ≡ sizes-in words) × (count ≡ word words 5) × (count ≤ 128) × (length blocks ≡ 128) × Filled words k blocks
+Inv-loop words o blocks₀ count sizes k₀ blocks k = Legible words o × (sizes ≡ network-in words .sizes) × (count ≡ block-count (network-in words)) × (count ≤ 128) × (length blocks ≡ 128) × Filled (network-in words) k blocks
 
 abbrev μ-loop : tie.MeasureT-loop
 μ-loop words o blocks₀ count sizes k₀ blocks k = count - k
 
 -- the loop goes on while there are blocks
-below : (c : tie.In-loop Inv-loop μ-loop) → c .before .loop .k < word (now (c .before .before .before .before .before .before .args .words)) 5
+below : (c : tie.In-loop Inv-loop μ-loop) → c .before .loop .k < block-count (network-in (now (c .before .before .before .before .before .before .args .words)))
 below c = subst (λ (n : ℕ). c .before .loop .k < n) (c .before .loop .inv .2) (c .loop-test .taken)
 
 nothing-requires : tie.Need-nothing-requires Inv-loop μ-loop
@@ -32,11 +31,11 @@ cast-count : tie.Need-cast-count Inv-loop μ-loop
 cast-count c = search needs
 
 loop-holds : tie.Need-loop-holds Inv-loop μ-loop
-unfolding opened
 loop-holds c =
     let b = c .before .before .before .before in
-    let count = ap (λ (o : Opened). o .count) (b .pre .opens) in
-    (b .pre, ap (λ (o : Opened). o .sizes) (b .pre .opens), count, omega (arith, count, accepts-exactly (now (b .args .words)) .0 (b .pre .accepted) .few), refl, λ i l d. absurd (omega arith))
+    let ws = now (b .args .words) in
+    let count = count-is ws (b .pre .opens) in
+    (b .pre, sizes-are ws (b .pre .opens), count, omega (arith, count, accepted-good ws (b .pre .accepted) .few), refl, λ i l d. absurd (omega arith))
 
 add-record-at : tie.Need-add-record-at Inv-loop μ-loop
 add-record-at c = search needs
@@ -89,8 +88,8 @@ loop-again c =
       v .2,
       v .3,
       length-set (inside .before .loop .blocks) k _ ∙ v .4,
-      one-filled (now (x .words)) (inside .before .loop .blocks) (v .5) (omega (arith, v .3, v .4, inside .loop-test .taken))
-          (is-located (now (x .words)) k (v .1) block (c .before .start .ensures) (c .start2 .ensures)),
+      one-filled (network-in (now (x .words))) (inside .before .loop .blocks) (v .5) (omega (arith, v .3, v .4, inside .loop-test .taken))
+          (is-located (network-in (now (x .words))) k (v .1) block (c .before .start .ensures) (c .start2 .ensures)),
     )
 
 returns-2 : tie.Need-returns-2 Inv-loop μ-loop

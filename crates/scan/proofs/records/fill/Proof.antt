@@ -49,11 +49,11 @@ use denote.Triple.Table.{entered, cited}
 use denote.Triple.Walked.{says, needs, Stays, stay-slice, stay-none, stay-none-slice, walkOf, goes-slice, goes-none, goes-none-slice, Walks, ends-at, walked, walk-meets}
 use denote.Exit.{yes}
 use denote.Signature.{plain}
-use Rattle.scan.specs.declared.records.Outputs.{Outputs}
-use Rattle.scan.specs.Records.{unpack}
+use Rattle.blocks.specs.declared.Outputs.{Outputs}
+use Rattle.scan.specs.Scan.{unpacked}
 use Rattle.scan.proofs.Recording.{filled, filled-long, filled-next}
-use Rattle.scan.proofs.records.Outputs as T
-use Rattle.scan.proofs.records.Outputs.Laws as T′
+use Rattle.blocks.proofs.Outputs as T
+use Rattle.blocks.proofs.Outputs.Laws as T′
 use Rattle.scan.proofs.records.outputs_of as outputs-of
 use Rattle.scan.proofs.records.outputs_of.Symbol as outputs-of-def
 use Rattle.scan.proofs.records.outputs_of.Symbol.{name as #outputs-of}
@@ -139,8 +139,8 @@ module _ {M : Type 1} (𝓤 : URA M) (H : Heap 𝓤) (A : Atoms 𝓤) (W : Given
       qed W (‵ (flft κ′ q′) ∷ ‵ Own ∷ []) ∵ says ! inside $ nothing ! $ move ! (1 ∷ 0 ∷ []) $ join ! $ frame ! $
       nothing ! $ owned ! usize (Is usize) (uint-makes 𝓤 H A W w64) k _ (refl, k-fits) $ fjoin ! $ move ! (1 ∷ 0 ∷ []) $ fjoin ! $ done !
 
-  said : (k : ℕ) (r : Outputs) → ent 𝓤 (ensured 𝓤 H A outputs-of.ended (outputs-of.clauses 𝓤 H A mem run) (κ′, tt) (ns, (k, tt)) tt r) (fact 𝓤 (r ≡ unpack (getD (ns .now) k 0)))
-  said k r = exE 𝓤 _ (λ ws. snd∗ 𝓤 (sem 𝓤 H A (lasts outputs-of.ended (κ′, tt) (ns, (k, tt)) ws)) (fact 𝓤 (r ≡ unpack (getD (ns .now) k 0))))
+  said : (k : ℕ) (r : Outputs) → ent 𝓤 (ensured 𝓤 H A outputs-of.ended (outputs-of.clauses 𝓤 H A mem run) (κ′, tt) (ns, (k, tt)) tt r) (fact 𝓤 (r ≡ unpacked (getD (ns .now) k 0)))
+  said k r = exE 𝓤 _ (λ ws. snd∗ 𝓤 (sem 𝓤 H A (lasts outputs-of.ended (κ′, tt) (ns, (k, tt)) ws)) (fact 𝓤 (r ≡ unpacked (getD (ns .now) k 0))))
 
   -- ---- the loop: k records are filled
   abbrev Upto : Type 0
@@ -189,7 +189,7 @@ module _ {M : Type 1} (𝓤 : URA M) (H : Heap 𝓤) (A : Atoms 𝓤) (W : Given
           move ! (5 ∷ []) $ use1 W (‵ Own ⊛ ‵ Own) (shr-slice-copy 𝓤 H A W (named 1) κ′ u16 .twice ns (s′ ∷ [])) $ split ! $ move ! (6 ∷ 0 ∷ []) $ use2 W (raw (OutputsOf 𝓤 H A mem run .pre (to k))) (asked k (omega (arith, less)) (omega (arith, less))) $
           calls-at ! fm (OutputsOf 𝓤 H A mem run) known (to k) (and-then ! (load ! (from ! (stop !)) (look ! 18 refl)) (and-then ! (load ! (from ! (stop !)) (look ! 14 refl)) (no-more !))) (λ w.
           use1 W (later (some (λ (r : Outputs). ((‵ (flft κ′ q′) ⊛ ‵ ftrue) ⊛ ‵ (T.the-row .own r (w ∷ []))) ⊛ raw (ensured 𝓤 H A outputs-of.ended (outputs-of.clauses 𝓤 H A mem run) (κ′, tt) (ns, (k, tt)) tt r)))) (id⊢ 𝓤 _) $ await ! tt $ pick ! (λ r.
-          split ! $ move ! (1 ∷ []) $ use1 W (raw (fact 𝓤 (r ≡ unpack (getD (ns .now) k 0)))) (said k r) $ heard ! (r ≡ unpack (getD (ns .now) k 0)) (λ e′. split ! $ move ! (1 ∷ []) $
+          split ! $ move ! (1 ∷ []) $ use1 W (raw (fact 𝓤 (r ≡ unpacked (getD (ns .now) k 0)))) (said k r) $ heard ! (r ≡ unpacked (getD (ns .now) k 0)) (λ e′. split ! $ move ! (1 ∷ []) $
           peeks ! T.the-row (Is T.the-row) (shows 𝓤 H A T.the-row) r (w ∷ []) (λ is. land ! (from ! (stop !)) (init ! 11 refl (typed r w is)) $
           -- [what the record owns; the token; what the numbers own; the row; …; _8; …]: its place, and the store
           assigns ! (bin ! (load ! (from ! (stop !)) (look ! 15 refl)) (lit ! tt) (record { fits = place-fits })) (from ! (stop !)) (init ! 9 refl (tt, record { fits = place-fits })) $

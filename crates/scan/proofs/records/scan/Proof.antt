@@ -43,13 +43,13 @@ use denote.Exit.{yes}
 use denote.Signature.{plain}
 use Rattle.bits.proofs.Verdict as verdict
 use Rattle.bits.proofs.Verdict.Laws as verdict′
-use Rattle.scan.specs.declared.records.Outputs.{Outputs}
+use Rattle.blocks.specs.declared.Outputs.{Outputs}
 use Rattle.scan.specs.declared.records.Numbers.{Numbers}
 use Rattle.scan.specs.Records.{Recorded}
 use Rattle.scan.specs.Inner.{Numbered}
 use Rattle.scan.proofs.Lending.{whole-of, Lender, lent-out, lent-back}
 use Rattle.scan.proofs.Recording.{filled, recorded}
-use Rattle.scan.proofs.records.Outputs as T
+use Rattle.blocks.proofs.Outputs as T
 use Rattle.scan.proofs.records.Numbers as N
 use Rattle.scan.proofs.records.Numbers.Laws as N′
 use Rattle.scan.proofs.records.numbered as numbered

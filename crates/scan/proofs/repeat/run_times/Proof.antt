@@ -5,60 +5,50 @@ use native.Mathlib.Omega.{arith}
 use borrow.Author.Needs.{needs}
 use denote.Ref.{now}
 use lib.ListN.{length}
-use Rattle.network.specs.declared.checker.Opened.{Opened}
-use Rattle.network.specs.Record.{word}
-use Rattle.network.specs.Check.{opened, sizes-in}
-use Rattle.network.proofs.Accepted.{accepts-exactly}
+use Rattle.network.specs.Network.{block-count}
+use Rattle.network.specs.Check.{network-in}
+use Rattle.network.proofs.Values.{accepted-good}
 use Rattle.scan.proofs.Repeating.{next-room, room-before}
+use Rattle.scan.proofs.Scanning.{sizes-are, count-is}
 use Rattle.scan.proofs.Walking.{SoFar, Onward, none-run, table-long, packs-long, marks-long, next-ready, one-more, scan-done, all-run}
 use Rattle.scan.proofs.repeat.run_times.Statement.{statement}
 use Rattle.scan.proofs.repeat.run_times.Tie as tie
 
 abbrev Inv-loop2 : tie.InvT-loop2
 Inv-loop2 words table₀ times outputs₀ pointers₀ blocks sizes count scans j first k₀ table outputs pointers k =
-    Onward words j table₀ outputs₀ pointers₀ k table outputs pointers
+    Onward (network-in words) j table₀ outputs₀ pointers₀ k table outputs pointers
 
 abbrev μ-loop2 : tie.MeasureT-loop2
 μ-loop2 words table₀ times outputs₀ pointers₀ blocks sizes count scans j first k₀ table outputs pointers k = count - k
 
 abbrev Inv-loop : tie.InvT-loop
 Inv-loop words table₀ times outputs₀ pointers₀ blocks sizes count scans j₀ table outputs pointers j =
-    (j ≤ scans) × SoFar words table₀ outputs₀ pointers₀ j 0 table outputs pointers
+    (j ≤ scans) × SoFar (network-in words) table₀ outputs₀ pointers₀ j 0 table outputs pointers
 
 abbrev μ-loop : tie.MeasureT-loop
 μ-loop words table₀ times outputs₀ pointers₀ blocks sizes count scans j₀ table outputs pointers j = scans - j
 
--- the count and the sizes are those that the words spell
-module _ (s : tie.Start Inv-loop2 μ-loop2 Inv-loop μ-loop) where
-  count-is : s .args .o .count ≡ word (now (s .args .words)) 5
-  unfolding opened
-  count-is = ap (λ (o : Opened). o .count) (s .pre .opens)
-
-  sizes-are : s .args .o .sizes ≡ sizes-in (now (s .args .words))
-  unfolding opened
-  sizes-are = ap (λ (o : Opened). o .sizes) (s .pre .opens)
-
 -- the next scan's entries lie in the lists
 module _ (c : tie.In-loop Inv-loop2 μ-loop2 Inv-loop μ-loop) where
-  outputs-room : c .before .loop .j * word (now (c .before .before .before .before .before .before .before .before .before .args .words)) 5 + word (now (c .before .before .before .before .before .before .before .before .before .args .words)) 5 ≤ length (now (c .before .before .before .before .before .before .before .before .before .args .outputs))
-  outputs-room = next-room (c .before .loop .j) (c .before .before .before .before .before .before .before .before .before .args .times) (word (now (c .before .before .before .before .before .before .before .before .before .args .words)) 5) (length (now (c .before .before .before .before .before .before .before .before .before .args .outputs))) (c .loop-test .taken) (c .before .before .before .before .before .before .before .before .before .pre .outputs-room)
+  outputs-room : c .before .loop .j * block-count (network-in (now (c .before .before .before .before .before .before .before .before .before .args .words))) + block-count (network-in (now (c .before .before .before .before .before .before .before .before .before .args .words))) ≤ length (now (c .before .before .before .before .before .before .before .before .before .args .outputs))
+  outputs-room = next-room (c .before .loop .j) (c .before .before .before .before .before .before .before .before .before .args .times) (block-count (network-in (now (c .before .before .before .before .before .before .before .before .before .args .words)))) (length (now (c .before .before .before .before .before .before .before .before .before .args .outputs))) (c .loop-test .taken) (c .before .before .before .before .before .before .before .before .before .pre .outputs-room)
 
-  pointers-room : c .before .loop .j * word (now (c .before .before .before .before .before .before .before .before .before .args .words)) 5 + word (now (c .before .before .before .before .before .before .before .before .before .args .words)) 5 ≤ length (now (c .before .before .before .before .before .before .before .before .before .args .pointers))
-  pointers-room = next-room (c .before .loop .j) (c .before .before .before .before .before .before .before .before .before .args .times) (word (now (c .before .before .before .before .before .before .before .before .before .args .words)) 5) (length (now (c .before .before .before .before .before .before .before .before .before .args .pointers))) (c .loop-test .taken) (c .before .before .before .before .before .before .before .before .before .pre .pointers-room)
+  pointers-room : c .before .loop .j * block-count (network-in (now (c .before .before .before .before .before .before .before .before .before .args .words))) + block-count (network-in (now (c .before .before .before .before .before .before .before .before .before .args .words))) ≤ length (now (c .before .before .before .before .before .before .before .before .before .args .pointers))
+  pointers-room = next-room (c .before .loop .j) (c .before .before .before .before .before .before .before .before .before .args .times) (block-count (network-in (now (c .before .before .before .before .before .before .before .before .before .args .words)))) (length (now (c .before .before .before .before .before .before .before .before .before .args .pointers))) (c .loop-test .taken) (c .before .before .before .before .before .before .before .before .before .pre .pointers-room)
 
   -- where they start
-  first-is : c .before .loop .j * c .before .before .before .before .before .before .before .before .before .args .o .count ≡ c .before .loop .j * word (now (c .before .before .before .before .before .before .before .before .before .args .words)) 5
-  first-is = ap (λ (n : ℕ). c .before .loop .j * n) (count-is (c .before .before .before .before .before .before .before .before .before))
+  first-is : c .before .loop .j * c .before .before .before .before .before .before .before .before .before .args .o .count ≡ c .before .loop .j * block-count (network-in (now (c .before .before .before .before .before .before .before .before .before .args .words)))
+  first-is = ap (λ (n : ℕ). c .before .loop .j * n) (count-is _ (c .before .before .before .before .before .before .before .before .before .pre .opens))
 
 -- the next block
 module _ (c : tie.In-loop2 Inv-loop2 μ-loop2 Inv-loop μ-loop) where
-  below : c .before .loop2 .k < word (now (c .before .before .before .before .before .before .before .before .before .before .before .args .words)) 5
-  below = subst (λ (n : ℕ). c .before .loop2 .k < n) (count-is (c .before .before .before .before .before .before .before .before .before .before .before)) (c .loop2-test .taken)
+  below : c .before .loop2 .k < block-count (network-in (now (c .before .before .before .before .before .before .before .before .before .before .before .args .words)))
+  below = subst (λ (n : ℕ). c .before .loop2 .k < n) (count-is _ (c .before .before .before .before .before .before .before .before .before .before .before .pre .opens)) (c .loop2-test .taken)
 
   few : c .before .loop2 .k < 128
-  few = omega (arith, below, accepts-exactly (now (c .before .before .before .before .before .before .before .before .before .before .before .args .words)) .0 (c .before .before .before .before .before .before .before .before .before .before .before .pre .accepted) .few)
+  few = omega (arith, below, accepted-good (now (c .before .before .before .before .before .before .before .before .before .before .before .args .words)) (c .before .before .before .before .before .before .before .before .before .before .before .pre .accepted) .few)
 
-  so-far : SoFar (now (c .before .before .before .before .before .before .before .before .before .before .before .args .words)) (now (c .before .before .before .before .before .before .before .before .before .before .before .args .table)) (now (c .before .before .before .before .before .before .before .before .before .before .before .args .outputs)) (now (c .before .before .before .before .before .before .before .before .before .before .before .args .pointers))
+  so-far : SoFar (network-in (now (c .before .before .before .before .before .before .before .before .before .before .before .args .words))) (now (c .before .before .before .before .before .before .before .before .before .before .before .args .table)) (now (c .before .before .before .before .before .before .before .before .before .before .before .args .outputs)) (now (c .before .before .before .before .before .before .before .before .before .before .before .args .pointers))
       (c .before .before .before .loop .j) (c .before .loop2 .k) (c .before .loop2 .table) (c .before .loop2 .outputs) (c .before .loop2 .pointers)
   so-far = c .before .loop2 .inv _ _ _ (outputs-room (c .before .before)) (pointers-room (c .before .before)) (c .before .before .before .loop .inv .1)
 
@@ -71,7 +61,7 @@ cast-count c = search needs
 loop-holds : tie.Need-loop-holds Inv-loop2 μ-loop2 Inv-loop μ-loop
 loop-holds c =
     let b = c .before .before .before .before .before .before .before in
-    (omega arith, none-run (accepts-exactly (now (b .args .words)) .0 (b .pre .accepted)) (b .pre .exact))
+    (omega arith, none-run (accepted-good (now (b .args .words)) (b .pre .accepted)) (b .pre .exact))
 
 mul-first : tie.Need-mul-first Inv-loop2 μ-loop2 Inv-loop μ-loop
 mul-first c = let h = outputs-room c in let e = first-is c in omega arith
@@ -89,7 +79,7 @@ run-one-requires : tie.Need-run-one-requires Inv-loop2 μ-loop2 Inv-loop μ-loop
 run-one-requires c κs =
     let inside = c .before .before .before .before in
     let scan = inside .before .before in
-    next-ready (so-far inside) (below inside) (outputs-room scan) (pointers-room scan) (sizes-are (inside .before .before .before .before .before .before .before .before .before .before .before)) (scan .before .before .before .before .blocks-of .ensures (inside .before .loop2 .k) (below inside) _) (first-is scan)
+    next-ready (so-far inside) (below inside) (outputs-room scan) (pointers-room scan) (sizes-are _ (inside .before .before .before .before .before .before .before .before .before .before .before .pre .opens)) (scan .before .before .before .before .blocks-of .ensures (inside .before .loop2 .k) (below inside) _) (first-is scan)
 
 add-k : tie.Need-add-k Inv-loop2 μ-loop2 Inv-loop μ-loop
 add-k c = search needs
@@ -102,7 +92,7 @@ loop2-again c =
     let ran = c .before .before .before .before .before .before in
     let inside = ran .before .before .before .before .before in
     let scan = inside .before .before in
-    λ t outputs pointers u v h. one-more (inside .before .loop2 .inv t outputs pointers u v h) (below inside) u v (sizes-are (inside .before .before .before .before .before .before .before .before .before .before .before)) (scan .before .before .before .before .blocks-of .ensures (inside .before .loop2 .k) (below inside) _) (first-is scan) (ran .run-one .ensures)
+    λ t outputs pointers u v h. one-more (inside .before .loop2 .inv t outputs pointers u v h) (below inside) u v (sizes-are _ (inside .before .before .before .before .before .before .before .before .before .before .before .pre .opens)) (scan .before .before .before .before .blocks-of .ensures (inside .before .loop2 .k) (below inside) _) (first-is scan) (ran .run-one .ensures)
 
 add-j : tie.Need-add-j Inv-loop2 μ-loop2 Inv-loop μ-loop
 add-j c = search needs
@@ -115,7 +105,7 @@ loop-again c =
     let scan = c .before .before in (
       omega (arith, scan .loop-test .taken),
       scan-done (c .before .loop2 .inv _ _ _ (outputs-room scan) (pointers-room scan) (scan .before .loop .inv .1))
-          (subst (λ (n : ℕ). n ≤ c .before .loop2 .k) (count-is (c .before .before .before .before .before .before .before .before .before .before .before)) (c .loop2-test .left)),
+          (subst (λ (n : ℕ). n ≤ c .before .loop2 .k) (count-is _ (c .before .before .before .before .before .before .before .before .before .before .before .pre .opens)) (c .loop2-test .left)),
     )
 
 same-length : tie.Need-same-length Inv-loop2 μ-loop2 Inv-loop μ-loop
@@ -124,12 +114,12 @@ same-length c = table-long (c .before .loop .inv .1)
 same-length-2 : tie.Need-same-length-2 Inv-loop2 μ-loop2 Inv-loop μ-loop
 same-length-2 c =
     let b = c .before .before .before .before .before .before .before .before .before in
-    packs-long (c .before .loop .inv .1) (omega (arith, room-before (c .before .loop .j) (b .args .times) (word (now (b .args .words)) 5) (length (now (b .args .outputs))) (c .before .loop .inv .0) (b .pre .outputs-room)))
+    packs-long (c .before .loop .inv .1) (omega (arith, room-before (c .before .loop .j) (b .args .times) (block-count (network-in (now (b .args .words)))) (length (now (b .args .outputs))) (c .before .loop .inv .0) (b .pre .outputs-room)))
 
 same-length-3 : tie.Need-same-length-3 Inv-loop2 μ-loop2 Inv-loop μ-loop
 same-length-3 c =
     let b = c .before .before .before .before .before .before .before .before .before in
-    marks-long (c .before .loop .inv .1) (omega (arith, room-before (c .before .loop .j) (b .args .times) (word (now (b .args .words)) 5) (length (now (b .args .pointers))) (c .before .loop .inv .0) (b .pre .pointers-room)))
+    marks-long (c .before .loop .inv .1) (omega (arith, room-before (c .before .loop .j) (b .args .times) (block-count (network-in (now (b .args .words)))) (length (now (b .args .pointers))) (c .before .loop .inv .0) (b .pre .pointers-room)))
 
 returns : tie.Need-returns Inv-loop2 μ-loop2 Inv-loop μ-loop
 returns c = all-run (c .before .loop .inv .1) (omega (arith, c .before .loop .inv .0, c .loop-test .left))

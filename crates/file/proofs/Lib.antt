@@ -1,0 +1,5 @@
+-- The laws of the definitions.
+pub mod Accepted
+pub mod Determined
+pub mod Examples
+pub mod Files

@@ -1,0 +1,82 @@
+-- A whole file (document 01, "The bench program" and "Numbers returned"): areas and blocks, as a network has them, then the
+-- image (count equal to the sum of the areas, then the words), then the run (count 1, then scans, 1 to 1000). An odd last byte never
+-- makes a word. Assumes nothing.
+use Prim.Native.Nat.{ℕ, _+_}
+use mathlib.Core.Path.{refl}
+use mathlib.Core.Bool.{Bool}
+use mathlib.Core.List.{List, [], _∷_, _++_, map}
+use lib.Dec.{eqb}
+use lib.ListN.{take, replicate}
+use Rattle.bits.specs.declared.Verdict.{Verdict}
+use Rattle.file.specs.declared.checker.OpenedFile.{OpenedFile}
+use Rattle.section.specs.Walk.{first-of}
+use Rattle.section.specs.Section.{Section, meaning, whole, Part, lifted}
+use Rattle.network.specs.Table.{total}
+use Rattle.network.specs.Network.{Network}
+use Rattle.network.specs.Fault.{counted}
+use Rattle.network.specs.Check.{sections, no-network, network-end, leading}
+
+-- a file as a value: its network, the words of its image, and the scans of its run
+pub record File : Type 0 where
+  pub network : Network
+  pub image : List ℕ
+  pub run : ℕ
+
+-- how many words the table of its areas has
+abbrev pub table-words : File → ℕ
+table-words f = total (f .network .sizes)
+
+-- the network's sections spell the file's network
+abbrev pub network-part : Part Network File
+network-part = record {
+  get = λ f. f .network;
+  put = λ net f. record { network = net; image = f .image; run = f .run };
+  get-put = λ net f. refl;
+  put-get = λ f. refl;
+  put-put = λ x y f. refl;
+}
+
+-- the image: count equal to the sum of the areas, then as many words, which earn nothing
+unfoldable pub image-section : Section File
+image-section = record {
+  allows = λ f count. eqb count (table-words f);
+  earns = λ f count ws. replicate (table-words f) 0;
+  spells = λ f count ws. record { network = f .network; image = take (table-words f) ws; run = f .run };
+}
+
+-- the run: count 1, then the scans, 1 to 1000 (3)
+abbrev pub most-scans : ℕ
+most-scans = 1000
+
+unfoldable pub run-section : Section File
+run-section = record {
+  allows = λ f count. eqb count 1;
+  earns = λ f count ws. counted most-scans (first-of ws) 3 ∷ [];
+  spells = λ f count ws. record { network = f .network; image = f .image; run = first-of ws };
+}
+
+abbrev pub after-network : List (Section File)
+after-network = image-section ∷ run-section ∷ []
+
+abbrev pub file-sections : List (Section File)
+file-sections = map (lifted network-part) sections ++ after-network
+
+abbrev pub no-file : File
+no-file = record { network = no-network; image = []; run = 0 }
+
+-- the file that the words spell, whatever they earn, and the verdict on them
+unfoldable pub file-in : List ℕ → File
+file-in ws = meaning file-sections no-file ws
+
+unfoldable pub file-checked : List ℕ → Bool → Verdict
+file-checked ws odd = whole file-sections no-file ws odd
+
+-- the verdict with what the words spell
+abbrev pub opened-file : List ℕ → Bool → OpenedFile
+opened-file ws odd = record {
+  verdict = file-checked ws odd;
+  network = leading ws;
+  image = network-end ws + 1;
+  words = table-words (file-in ws);
+  scans = file-in ws .run;
+}

@@ -1,0 +1,3 @@
+-- What the contracts of `file` cite: a file as a value, its sections and the verdict on them, what an accepted file is.
+pub mod File
+pub mod Sound

@@ -1,0 +1,63 @@
+-- `network::checker::sizes_judged` meets its contract. The loop keeps that the first refusal from here on is the first of all. Assumes nothing.
+use borrow.Author.Needs.{needs}
+use native.Mathlib.Omega.{arith}
+use mathlib.Core.Path.{refl}
+use Prim.Native.Nat.{_-_}
+use Rattle.section.proofs.Walk.{Reached, begun, stop-missing, stop-fault, go-on, passed}
+use Rattle.network.specs.Check.{sizes-faults}
+use Rattle.network.proofs.checker.sizes_judged.Statement.{statement}
+use Rattle.network.proofs.checker.sizes_judged.Tie as tie
+
+abbrev Inv-loop : tie.InvT-loop
+Inv-loop sizes size q₀ q = Reached (sizes-faults sizes) 4 size 1 q
+
+abbrev μ-loop : tie.MeasureT-loop
+μ-loop sizes size q₀ q = 4 - q
+
+loop-holds : tie.Need-loop-holds Inv-loop μ-loop
+unfolding sizes-faults
+loop-holds c = begun _ _ _ _ refl
+
+add-i : tie.Need-add-i Inv-loop μ-loop
+add-i c = omega arith
+
+add-place : tie.Need-add-place Inv-loop μ-loop
+add-place c = omega arith
+
+returns : tie.Need-returns Inv-loop μ-loop
+returns c = stop-missing (c .before .before .loop .inv) (c .before .loop-test .taken) (c .if1 .taken)
+
+size-fault-requires : tie.Need-size-fault-requires Inv-loop μ-loop
+size-fault-requires c κs = search needs
+
+returns-2 : tie.Need-returns-2 Inv-loop μ-loop
+returns-2 c = stop-fault (c .before .before .before .before .loop .inv) (c .before .before .before .loop-test .taken) (c .before .before .if1 .left) (c .before .size-fault .ensures) (c .if2 .taken)
+
+add-q : tie.Need-add-q Inv-loop μ-loop
+add-q c = omega arith
+
+loop-less : tie.Need-loop-less Inv-loop μ-loop
+loop-less c = omega arith
+
+loop-again : tie.Need-loop-again Inv-loop μ-loop
+loop-again c = go-on (c .before .before .before .before .loop .inv) (c .before .before .before .loop-test .taken) (c .before .before .if1 .left) (c .before .size-fault .ensures) (c .if2 .left)
+
+returns-3 : tie.Need-returns-3 Inv-loop μ-loop
+returns-3 c = passed (c .before .loop .inv) (c .loop-test .left)
+
+pub sizes-judged-spec : {M : Type 1} → statement M
+sizes-judged-spec =
+    tie.close
+    (tie.spec
+    Inv-loop
+    μ-loop
+    loop-holds
+    add-i
+    add-place
+    returns
+    size-fault-requires
+    returns-2
+    add-q
+    loop-less
+    loop-again
+    returns-3)
