@@ -13,6 +13,7 @@ ghost use lib.ListN.{drop, replicate};
 ghost use Rattle.network.specs.Record.{node-in, input-in, block-in};
 ghost use Rattle.network.specs.Network.{areas-only, block-count, words-of};
 ghost use Rattle.network.specs.Check.{sizes-in, network-in};
+ghost use Rattle.vectors.specs.Words.{added};
 
 // The most blocks of a network here.
 const MOST_BLOCKS: u16 = 12;
@@ -128,7 +129,9 @@ pub(crate) fn count_of(words: &[u16; 186]) -> usize
 }
 
 // The network with one more block, whose record the first 15 words of a row spell.
-pub(crate) fn add(words: [u16; 186], row: [u16; 40]) -> [u16; 186] {
+pub(crate) fn add(words: [u16; 186], row: [u16; 40]) -> [u16; 186]
+    ensures { λ r. ⌜ network-in r ≡ added (network-in words) (block-in row) ⌝ }
+{
     let mut longer = words;
     let blocks = count_of(&words);
     if MOST_BLOCKS as usize <= blocks {
