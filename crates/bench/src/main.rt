@@ -1,5 +1,5 @@
 // The bench program: reads one file from standard input and prints the lines of its run, or the one line of its refusal.
-use bits::Verdict;
+use verdict::Verdict;
 
 // The largest file that is accepted has 12,696 words; one more is enough to know that words are left over.
 const MOST_BYTES: usize = 25394;
@@ -37,7 +37,7 @@ fn lines(words: &[u16], table: &mut [u16], scans: u16) {
     let mut buffer = [0u8; TEXT];
     let mut next = 1;
     while next <= scans {
-        let went = benchfile::run(words, table, next, &mut buffer);
+        let went = run::run(words, table, next, &mut buffer);
         write_front(&buffer, went.bytes);
         if went.next <= next {
             return;
@@ -92,7 +92,7 @@ fn main() {
     let mut bytes = [0u8; MOST_BYTES];
     let got = io::read_full(0, &mut bytes);
     let mut words = [0u16; MOST_WORDS];
-    let converted = benchfile::to_words(&bytes[..got], &mut words);
+    let converted = words::to_words(&bytes[..got], &mut words);
     let count = converted.count;
     let odd = converted.odd;
     if count <= words.len() {

@@ -5,7 +5,7 @@ use mathlib.Core.Bool.{Bool, true, false, cond}
 use mathlib.Core.List.{List, [], _∷_}
 use Prim.Native.Nat.{ℕ, zero, suc}
 use lib.Dec.{eqb}
-use Rattle.bits.specs.Bit.{bit, value, word, matrix}
+use Rattle.bits.specs.Bit.{bit, value, word-with, matrix}
 use Rattle.bits.specs.Word.{rightward, leftward, put}
 
 -- the positions that are on, of the k after i
@@ -30,7 +30,7 @@ no-bit = refl
 -- words made of bits
 pub words :
     _≡_ {A = List ℕ}
-    (word (λ p. eqb p 1) ∷ word (λ p. eqb p 16) ∷ word (rightward 0x0001 0x8001) ∷ word (leftward 0x8001 0x8000) ∷ word (put 0x0000 16 true) ∷ word (put 0xffff 1 false) ∷ word (put 0x1234 0 true) ∷ word (put 0x1234 17 true) ∷ matrix 2 (λ p. eqb p 17))
+    (word-with (λ p. eqb p 1) ∷ word-with (λ p. eqb p 16) ∷ word-with (rightward 0x0001 0x8001) ∷ word-with (leftward 0x8001 0x8000) ∷ word-with (put 0x0000 16 true) ∷ word-with (put 0xffff 1 false) ∷ word-with (put 0x1234 0 true) ∷ word-with (put 0x1234 17 true) ∷ matrix 2 (λ p. eqb p 17))
     (32768 ∷ 1 ∷ 0xc000 ∷ 0x0003 ∷ 0x0001 ∷ 0x7fff ∷ 0x1234 ∷ 0x1234 ∷ 0x0000 ∷ 0x8000 ∷ [])
 unfolding value matrix bit
 words = refl

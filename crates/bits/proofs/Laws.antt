@@ -11,7 +11,7 @@ use borrow.Author.Tests.{eq-eqb, ne-eqb}
 use lib.Bits.{bitAnd, bitOr, bitXor, and-shr, or-shr, xor-shr, and-mod, or-mod, xor-mod, and-mask, xor-add-and}
 use lib.Dec.{eqb}
 use lib.ListN.{length, getD, List·getD-eq-default}
-use Rattle.bits.specs.Bit.{odd, bit, of, value, word}
+use Rattle.bits.specs.Bit.{odd, bit, of, value, word-with}
 use Rattle.bits.proofs.Digits.{digit, digit-odd, value-cong, value-digit, value-of}
 
 -- the bit of a word by its worth
@@ -23,13 +23,13 @@ of-digit w i h =
     ap₂ (λ (k j : ℕ). odd (getD (w ∷ []) k 0 / 2 ^ j)) first worth
 
 -- a number below 2 ^ 16 whose bits are f is the word of f
-pub word-of : (w : ℕ) (f : ℕ → Bool) → w < 2 ^ 16 → ((i : ℕ) → i < 16 → of w (suc i) ≡ f (suc i)) → w ≡ word f
+pub word-of : (w : ℕ) (f : ℕ → Bool) → w < 2 ^ 16 → ((i : ℕ) → i < 16 → of w (suc i) ≡ f (suc i)) → w ≡ word-with f
 word-of w f h e =
     sym (mod-eq-of-lt h) ∙ sym (value-of 16 w) ∙ value-cong 16 (λ p. odd (w / 2 ^ (16 - p))) f (λ i l. sym (of-digit w i l) ∙ e i l)
 
 -- and the bits of the word of f are f
-pub of-word : (f : ℕ → Bool) (i : ℕ) → i < 16 → of (word f) (suc i) ≡ f (suc i)
-of-word f i h = of-digit (word f) i h ∙ value-digit 16 f i h
+pub of-word : (f : ℕ → Bool) (i : ℕ) → i < 16 → of (word-with f) (suc i) ≡ f (suc i)
+of-word f i h = of-digit (word-with f) i h ∙ value-digit 16 f i h
 
 -- the word 0 has no bit that is on
 pub zero-of : (i : ℕ) → i < 16 → of 0 (suc i) ≡ false

@@ -8,7 +8,7 @@ use native.Mathlib.Nat.{not-suc-le-zero, le-of-suc-le-suc, zero-add, add-suc}
 use native.Mathlib.Omega.{arith}
 use lib.ListN.{length, getD}
 use lib.Seq.{ext-getD}
-use Rattle.bits.specs.Bit.{odd, bit, of, word, matrix}
+use Rattle.bits.specs.Bit.{odd, bit, of, word-with, matrix}
 use Rattle.bits.proofs.Digits.{value-cong}
 use Rattle.bits.proofs.Laws.{word-of, of-word}
 
@@ -29,7 +29,7 @@ matrix-length zero f = refl
 matrix-length (suc n) f = ap suc (matrix-length n (λ p. f (16 + p)))
 
 -- the words of a matrix
-pub matrix-at : (n : ℕ) (f : ℕ → Bool) (k : ℕ) → k < n → getD (matrix n f) k 0 ≡ word (λ p. f (k * 16 + p))
+pub matrix-at : (n : ℕ) (f : ℕ → Bool) (k : ℕ) → k < n → getD (matrix n f) k 0 ≡ word-with (λ p. f (k * 16 + p))
 unfolding matrix
 matrix-at zero f k h = absurd (not-suc-le-zero h)
 matrix-at (suc n) f zero h = value-cong 16 f (λ p. f (0 * 16 + p)) (λ i l. ap f (sym (zero-add (suc i))))
@@ -39,7 +39,7 @@ matrix-at (suc n) f (suc k) h =
 
 -- what is made word by word, each of its bits, is the matrix
 pub matrix-by-words : (m : List ℕ) (n : ℕ) (f : ℕ → Bool) → length m ≡ n
-    → ((k : ℕ) → k < n → getD m k 0 ≡ word (λ p. f (k * 16 + p))) → m ≡ matrix n f
+    → ((k : ℕ) → k < n → getD m k 0 ≡ word-with (λ p. f (k * 16 + p))) → m ≡ matrix n f
 matrix-by-words m n f e each =
     ext-getD 0 m (matrix n f) (e ∙ sym (matrix-length n f))
     (λ k h. let l : k < n = omega arith in each k l ∙ sym (matrix-at n f k l))

@@ -29,10 +29,17 @@ value zero f = 0
 value (suc k) f = value k f * 2 + cond (f (suc k)) 1 0
 
 -- the word whose bits are f
-abbrev pub word : (ℕ → Bool) → ℕ
-word f = value 16 f
+abbrev pub word-with : (ℕ → Bool) → ℕ
+word-with f = value 16 f
 
 -- the matrix of n words whose bits are f
 unfoldable pub matrix : ℕ → (ℕ → Bool) → List ℕ
 matrix zero f = []
-matrix (suc n) f = word f ∷ matrix n (λ p. f (16 + p))
+matrix (suc n) f = word-with f ∷ matrix n (λ p. f (16 + p))
+
+-- the longest matrix that is read as a whole (AND to BROT), in words, and the longest of all (MBIT, SENS)
+abbrev pub longest-whole : ℕ
+longest-whole = 100
+
+abbrev pub longest : ℕ
+longest = 255

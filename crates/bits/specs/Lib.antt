@@ -1,4 +1,3 @@
--- What the contracts of `bits` cite: the numbering of bits, the words that they make, and the form of every contract.
+-- What the contracts of `bits` cite: the numbering of bits and the words that they make.
 pub mod Bit
-pub mod Promise
 pub mod Word

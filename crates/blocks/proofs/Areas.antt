@@ -2,7 +2,7 @@
 use mathlib.Core.Path.{_≡_, refl, ap}
 use mathlib.Core.List.{List}
 use Prim.Native.Nat.{ℕ}
-use Rattle.network.specs.declared.block.Block.{Block}
+use Rattle.record.specs.declared.Block.{Block}
 use Rattle.network.specs.Network.{Network, areas-only}
 use Rattle.blocks.specs.declared.Power.{Power}
 use Rattle.blocks.specs.Kind.{Kind, kind-of}

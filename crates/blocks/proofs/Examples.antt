@@ -6,16 +6,16 @@ use mathlib.Core.Bool.{Bool, true, false, xor}
 use mathlib.Core.List.{List, [], _∷_}
 use Prim.Native.Nat.{ℕ}
 use Rattle.bits.specs.Bit.{bit, value, matrix}
-use Rattle.network.specs.declared.block.Node.{Node}
-use Rattle.network.specs.declared.block.Input.{Input}
-use Rattle.network.specs.declared.block.Coils.{Coils}
-use Rattle.network.specs.declared.block.Block.{Block}
-use Rattle.network.specs.Table.{start-of}
+use Rattle.record.specs.declared.Node.{Node}
+use Rattle.record.specs.declared.Input.{Input}
+use Rattle.record.specs.declared.Coils.{Coils}
+use Rattle.record.specs.declared.Block.{Block}
+use Rattle.table.specs.Table.{start-of}
 use Rattle.network.specs.Network.{Network, areas-only}
 use Rattle.matrix.specs.Logic.{combined}
-use Rattle.matrix.specs.Search.{first}
+use Rattle.search.specs.Search.{first}
 use Rattle.matrix.specs.Move.{moved}
-use Rattle.matrix.specs.Pointer.{reset, in-range, advanced}
+use Rattle.pointer.specs.Pointer.{reset, in-range, advanced}
 use Rattle.blocks.specs.declared.Power.{Power}
 use Rattle.blocks.specs.declared.Outputs.{Outputs}
 use Rattle.blocks.specs.Work.{block-outputs, block-table}

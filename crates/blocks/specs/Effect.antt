@@ -6,11 +6,12 @@ use mathlib.Core.List.{List}
 use mathlib.Core.Option.{Option, none, some}
 use lib.Dec.{eqb, ltb}
 use Rattle.bits.specs.Bit.{bit, matrix}
-use Rattle.matrix.specs.declared.{logic.Operation.Operation, logic.Operation.the-variants.And, logic.Operation.the-variants.Or, logic.Operation.the-variants.Xor, logic.Operation.the-variants.Comp, pointer.Pointer.Pointer}
+use Rattle.matrix.specs.declared.{logic.Operation.Operation, logic.Operation.the-variants.And, logic.Operation.the-variants.Or, logic.Operation.the-variants.Xor, logic.Operation.the-variants.Comp}
+use Rattle.pointer.specs.declared.Pointer.{Pointer}
 use Rattle.matrix.specs.Logic.{combined}
-use Rattle.matrix.specs.Search.{first, first-differing}
+use Rattle.search.specs.Search.{first, first-differing}
 use Rattle.matrix.specs.Move.{leaving, moved}
-use Rattle.matrix.specs.Pointer.{reset, in-range, advanced}
+use Rattle.pointer.specs.Pointer.{reset, in-range, advanced}
 use Rattle.blocks.specs.declared.Power.{Power}
 use Rattle.blocks.specs.Kind.{Kind}
 use Rattle.blocks.specs.Kind.Kind.{AND, OR, XOR, COMP, CMPR, MBIT, SENS, BROT}

@@ -1,8 +1,8 @@
 -- The eight kinds (document 01, "A network in words"): 1 to 8 in the order AND, OR, XOR, COMP, CMPR, MBIT, SENS, BROT.
 -- Assumes nothing.
 use Prim.Native.Nat.{ℕ}
-use mathlib.Core.Bool.{cond}
-use lib.Dec.{eqb}
+use mathlib.Core.Bool.{Bool, cond, _&&_}
+use lib.Dec.{eqb, leb}
 
 pub data Kind : Type 0 where
   AND : Kind
@@ -24,3 +24,7 @@ kind-of k =
     (cond (eqb k 5) CMPR
     (cond (eqb k 6) MBIT
     (cond (eqb k 7) SENS BROT))))))
+
+-- CMPR, MBIT and SENS have a pointer
+abbrev pub has-pointer : ℕ → Bool
+has-pointer kind = leb 5 kind && leb kind 7

@@ -9,12 +9,12 @@ use mathlib.Core.Option.{Option, none, some}
 use lib.Dec.{eqb, leb, ltb}
 use lib.ListN.{length}
 use Rattle.bits.specs.Bit.{bit}
-use Rattle.matrix.specs.Search.{NoneLater}
-use Rattle.matrix.specs.Pointer.{in-range}
-use Rattle.network.specs.declared.block.Block.{Block}
+use Rattle.search.specs.Search.{NoneLater}
+use Rattle.pointer.specs.Pointer.{in-range}
+use Rattle.record.specs.declared.Block.{Block}
 use Rattle.network.specs.Network.{Network}
-use Rattle.network.specs.Table.{total}
-use Rattle.network.specs.Sound.{GoodBlock}
+use Rattle.table.specs.Table.{total}
+use Rattle.rules.specs.Sound.{GoodBlock}
 use Rattle.blocks.specs.declared.Power.{Power}
 use Rattle.blocks.specs.Kind.{kind-of}
 use Rattle.blocks.specs.View.{View, first-word, view}

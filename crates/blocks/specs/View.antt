@@ -5,10 +5,11 @@ use mathlib.Core.Bool.{cond}
 use mathlib.Core.List.{List, []}
 use lib.Dec.{eqb}
 use lib.ListN.{getD}
-use Rattle.matrix.specs.Run.{run}
-use Rattle.network.specs.declared.{block.Node.Node, block.Block.Block}
+use Rattle.runs.specs.Run.{run}
+use Rattle.record.specs.declared.{Node.Node, Block.Block}
 use Rattle.network.specs.Network.{Network}
-use Rattle.network.specs.Table.{start-of}
+use Rattle.table.specs.Table.{start-of}
+use Rattle.blocks.specs.declared.Located.{Located}
 use Rattle.blocks.specs.Kind.{Kind}
 use Rattle.blocks.specs.Kind.Kind.{AND, OR, XOR, COMP, CMPR, MBIT, SENS, BROT}
 
@@ -16,9 +17,16 @@ use Rattle.blocks.specs.Kind.Kind.{AND, OR, XOR, COMP, CMPR, MBIT, SENS,
 abbrev pub first-word : Network → Node → ℕ
 first-word net node = start-of (net .sizes) (node .class) (node .number)
 
--- the pointer that a node gives: a constant's value, or the content of its register
+-- a block and the indexes of its nodes' first words
+abbrev pub located : Network → Block → Located
+located net b = record { block = b; top = first-word net (b .top); middle = first-word net (b .middle) }
+
+-- the pointer that a node gives: a constant's value, or the content of its register, which stands at an index
+abbrev pub pointer-at : Node → ℕ → List ℕ → ℕ
+pointer-at node register t = cond (eqb (node .class) 9) (node .number) (getD t register 0)
+
 abbrev pub pointer-in : Network → Node → List ℕ → ℕ
-pointer-in net node t = cond (eqb (node .class) 9) (node .number) (getD t (first-word net node) 0)
+pointer-in net node t = pointer-at node (first-word net node) t
 
 pub record View : Type 0 where
   pub source : List ℕ
@@ -29,22 +37,33 @@ abbrev pub seen : List ℕ → List ℕ → ℕ → View
 seen source destination pointer = record { source = source; destination = destination; pointer = pointer }
 
 -- n words of a table from a node's first on; CMPR's matrix stands after its pointer
-abbrev pub top-matrix : Network → Block → List ℕ → List ℕ
-top-matrix net b t = run t (first-word net (b .top)) (b .n)
+abbrev pub top-run : Located → List ℕ → List ℕ
+top-run one t = run t (one .top) (one .block .n)
 
-abbrev pub middle-matrix : Network → Block → List ℕ → List ℕ
-middle-matrix net b t = run t (first-word net (b .middle)) (b .n)
+abbrev pub middle-run : Located → List ℕ → List ℕ
+middle-run one t = run t (one .middle) (one .block .n)
 
-abbrev pub compared-matrix : Network → Block → List ℕ → List ℕ
-compared-matrix net b t = run t (first-word net (b .middle) + 1) (b .n)
+abbrev pub compared-run : Located → List ℕ → List ℕ
+compared-run one t = run t (one .middle + 1) (one .block .n)
 
 -- COMP and BROT read no destination, MBIT no source; SENS's source is its middle matrix
+unfoldable pub seen-by : Kind → Located → List ℕ → View
+seen-by AND one t = seen (top-run one t) (middle-run one t) 0
+seen-by OR one t = seen (top-run one t) (middle-run one t) 0
+seen-by XOR one t = seen (top-run one t) (middle-run one t) 0
+seen-by COMP one t = seen (top-run one t) [] 0
+seen-by CMPR one t = seen (top-run one t) (compared-run one t) (pointer-at (one .block .middle) (one .middle) t)
+seen-by MBIT one t = seen [] (middle-run one t) (pointer-at (one .block .top) (one .top) t)
+seen-by SENS one t = seen (middle-run one t) [] (pointer-at (one .block .top) (one .top) t)
+seen-by BROT one t = seen (top-run one t) [] 0
+
+-- of a block of a network
+abbrev pub top-matrix : Network → Block → List ℕ → List ℕ
+top-matrix net b t = top-run (located net b) t
+
+abbrev pub compared-matrix : Network → Block → List ℕ → List ℕ
+compared-matrix net b t = compared-run (located net b) t
+
 unfoldable pub view : Kind → Network → Block → List ℕ → View
-view AND net b t = seen (top-matrix net b t) (middle-matrix net b t) 0
-view OR net b t = seen (top-matrix net b t) (middle-matrix net b t) 0
-view XOR net b t = seen (top-matrix net b t) (middle-matrix net b t) 0
-view COMP net b t = seen (top-matrix net b t) [] 0
-view CMPR net b t = seen (top-matrix net b t) (compared-matrix net b t) (pointer-in net (b .middle) t)
-view MBIT net b t = seen [] (middle-matrix net b t) (pointer-in net (b .top) t)
-view SENS net b t = seen (middle-matrix net b t) [] (pointer-in net (b .top) t)
-view BROT net b t = seen (top-matrix net b t) [] 0
+unfolding seen-by
+view kind net b t = seen-by kind (located net b) t

@@ -6,13 +6,13 @@ use mathlib.Core.List.{List, [], _∷_}
 use mathlib.Core.Option.{Option, none, some}
 use lib.Dec.{eqb}
 use Rattle.bits.specs.Bit.{bit, matrix}
-use Rattle.matrix.specs.Run.{run, placed}
-use Rattle.network.specs.declared.{block.Node.Node, block.Coils.Coils, block.Block.Block}
+use Rattle.runs.specs.Run.{run, placed}
+use Rattle.record.specs.declared.{Node.Node, Coils.Coils, Block.Block}
 use Rattle.network.specs.Network.{Network}
 use Rattle.blocks.specs.declared.{Power.Power, Outputs.Outputs}
 use Rattle.blocks.specs.Kind.{Kind, kind-of}
 use Rattle.blocks.specs.Kind.Kind.{AND, OR, XOR, COMP, CMPR, MBIT, SENS, BROT}
-use Rattle.blocks.specs.View.{first-word, view}
+use Rattle.blocks.specs.View.{View, first-word, view}
 use Rattle.blocks.specs.Effect.{Effect, effect-of}
 
 -- the node that gives the pointer: CMPR's stands before its matrix
@@ -36,6 +36,10 @@ abbrev pub one-word : Option ℕ → Option (List ℕ)
 one-word none = none
 one-word (some w) = some (w ∷ [])
 
+-- an effect: the destination from index d on, then the pointer at index p
+abbrev pub effect-put : ℕ → ℕ → Effect → List ℕ → List ℕ
+effect-put d p e t = matrix-put p (one-word (e .pointer)) (matrix-put d (e .destination) t)
+
 -- a coil: the bit of that number of the coil area, 1 for power and 0 for none; number 0 names none
 unfoldable pub coil-put : Network → ℕ → Bool → List ℕ → List ℕ
 coil-put net number on t =
@@ -46,19 +50,23 @@ abbrev pub coils-put : Network → Coils → Outputs → List ℕ → List ℕ
 coils-put net coils out t = coil-put net (coils .bottom) (out .bottom) (coil-put net (coils .middle) (out .middle) (coil-put net (coils .top) (out .top) t))
 
 -- what the block is to do, with so much power on its inputs
+abbrev pub effect-as : Kind → Block → View → Power → Effect
+effect-as kind b v on = effect-of kind (eqb (pointer-node kind b .class) 4) (b .n) v on
+
 abbrev pub effect-on : Network → Block → List ℕ → Power → Effect
-effect-on net b t on =
-    effect-of (kind-of (b .kind)) (eqb (pointer-node (kind-of (b .kind)) b .class) 4) (b .n) (view (kind-of (b .kind)) net b t) on
+effect-on net b t on = effect-as (kind-of (b .kind)) b (view (kind-of (b .kind)) net b t) on
+
+abbrev pub shows : Bool → Bool → Bool → Outputs
+shows top middle bottom = record { top = top; middle = middle; bottom = bottom }
 
 -- the top output equals the top input
 abbrev pub outputs : Power → Effect → Outputs
-outputs on e = record { top = on .top; middle = e .middle; bottom = e .bottom }
+outputs on e = shows (on .top) (e .middle) (e .bottom)
 
 abbrev pub written : Network → Block → Power → Effect → List ℕ → List ℕ
 written net b on e t =
     coils-put net (b .coils) (outputs on e)
-    (matrix-put (first-word net (pointer-node (kind-of (b .kind)) b)) (one-word (e .pointer))
-    (matrix-put (first-word net (b .middle)) (e .destination) t))
+    (effect-put (first-word net (b .middle)) (first-word net (pointer-node (kind-of (b .kind)) b)) e t)
 
 -- the outputs of a block, and the table that it leaves
 unfoldable pub block-outputs : Network → Block → List ℕ → Power → Outputs

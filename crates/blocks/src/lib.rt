@@ -1,5 +1,11 @@
-// What each of the eight kinds of block does to a table of words: it reads, its rule says what becomes of what it has read, and
-// it writes.
+// What a block is, reads, does and writes: the definitions that the kinds' calls promise, and the values that they take and answer.
+mod answer;
+
+pub use answer::Worked;
+pub use answer::finished;
+pub use answer::packed;
+pub use answer::refused;
+use record::Block;
 
 // Power on a block's three inputs.
 pub struct Power {
@@ -13,4 +19,11 @@ pub struct Outputs {
     pub top: bool,
     pub middle: bool,
     pub bottom: bool,
+}
+
+// A block's record, and the indexes of its nodes' first words.
+pub struct Located {
+    pub block: Block,
+    pub top: usize,
+    pub middle: usize,
 }

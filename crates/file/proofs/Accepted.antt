@@ -10,21 +10,22 @@ use borrow.Author.Tests.{eqb-true, eq-eqb}
 use lib.Dec.{eqb}
 use lib.ListN.{length, take, drop, replicate, length-append, length-drop, length-replicate}
 use lib.Seq.{take-add, take-suc, take-all, append-snoc, length-take-le, drop-at, drop-append-seam}
-use Rattle.bits.specs.declared.Verdict.{Verdict}
-use Rattle.section.specs.Walk.{word, first-of, done, left-over}
+use Rattle.verdict.specs.declared.Verdict.{Verdict}
+use Rattle.section.specs.Walk.{word, first-of, left-over}
+use Rattle.verdict.specs.Verdict.{done}
 use Rattle.section.specs.Section.{section-earns, section-rest, earned, end, judged-from}
 use Rattle.section.specs.Truths.{Clean, Good}
 use Rattle.section.proofs.Walk.{then-next, then-zero, done-clean, clean-done}
 use Rattle.section.proofs.Words.{word-here}
 use Rattle.section.proofs.Sections.{none-over, none-left, earned-good, good-earned, whole-done}
-use Rattle.network.specs.Table.{total}
+use Rattle.table.specs.Table.{total}
 use Rattle.network.specs.Network.{Network, words-of}
-use Rattle.network.specs.Fault.{counted}
+use Rattle.section.specs.Limit.{counted}
 use Rattle.network.specs.Check.{network-in, network-end, front-checked}
 use Rattle.network.specs.Sound.{GoodNetwork}
 use Rattle.network.proofs.Accepted.{spells-front, end-front, good-front-done, front-words, front-opens as network-opens}
-use Rattle.network.proofs.Faults.{counted-in}
-use Rattle.network.proofs.Good.{front-good, count-of}
+use Rattle.section.proofs.Limits.{counted-in, count-of}
+use Rattle.network.proofs.Good.{front-good}
 use Rattle.network.proofs.Networks.{count-is, end-is}
 use Rattle.file.specs.File.{File, table-words, image-section, most-scans, run-section, after-network, file-sections, no-file, file-in, file-checked}
 use Rattle.file.specs.Sound.{GoodFile, file-words, SoundFile, AcceptsFiles, FrontOpens, NoLonger}

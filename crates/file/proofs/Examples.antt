@@ -4,14 +4,15 @@ use mathlib.Core.Bool.{Bool, true, false}
 use mathlib.Core.List.{List, [], _∷_, _++_}
 use Prim.Native.Nat.{ℕ}
 use lib.ListN.{drop}
-use Rattle.bits.specs.declared.Verdict.{Verdict}
-use Rattle.section.specs.Walk.{verdict, done, seek}
+use Rattle.verdict.specs.declared.Verdict.{Verdict}
+use Rattle.section.specs.Walk.{seek}
+use Rattle.verdict.specs.Verdict.{verdict, done}
 use Rattle.section.specs.Section.{section-earns, earned, meaning, judged-from, whole, records-earn, records-in}
-use Rattle.network.specs.Table.{reference-fault}
-use Rattle.network.specs.Rules.{rule, allows}
-use Rattle.network.specs.Record.{block-in}
-use Rattle.network.specs.Fault.{faults}
-use Rattle.network.specs.Check.{sizes-faults, areas-section, block-faults, blocks-section, network-in, network-end, front-checked}
+use Rattle.table.specs.Table.{reference-fault, sizes-faults}
+use Rattle.rules.specs.Rules.{rule, allows}
+use Rattle.record.specs.Record.{block-in}
+use Rattle.rules.specs.Fault.{faults}
+use Rattle.network.specs.Check.{areas-section, block-faults, blocks-section, network-in, network-end, front-checked}
 use Rattle.file.specs.declared.checker.OpenedFile.{OpenedFile}
 use Rattle.file.specs.File.{File, image-section, run-section, file-in, file-checked, opened-file}
 

@@ -8,16 +8,17 @@ use native.Mathlib.Numerals.{add-one}
 use native.Mathlib.Omega.{arith}
 use lib.Dec.{eqb}
 use lib.ListN.{length, take, drop, replicate, length-append, length-replicate}
-use Rattle.bits.specs.declared.Verdict.{Verdict}
-use Rattle.section.specs.Walk.{word, first-of, verdict, done, then, seek, left-over}
+use Rattle.verdict.specs.declared.Verdict.{Verdict}
+use Rattle.section.specs.Walk.{word, first-of, seek, left-over}
+use Rattle.verdict.specs.Verdict.{verdict, done, then}
 use Rattle.section.specs.Section.{Section, section-earns, section-spells, section-rest, earned, meaning, end, judged-from, front, whole, lifted}
 use Rattle.section.proofs.Walk.{then-first, then-next, then-assoc, seek-missing, seek-fault, seek-next, seek-none, seek-there, turn-refused, turn-passed, turn-last}
 use Rattle.section.proofs.Words.{word-here, rest-from, all-there, some-missing}
 use Rattle.section.proofs.Sections.{earned-append, meaning-append, counts-through, lifted-as-alone, none-over, some-over, odd-over}
 use Rattle.network.specs.declared.checker.Opened.{Opened}
-use Rattle.network.specs.Table.{total}
+use Rattle.table.specs.Table.{total}
 use Rattle.network.specs.Network.{Network}
-use Rattle.network.specs.Fault.{counted}
+use Rattle.section.specs.Limit.{counted}
 use Rattle.network.specs.Check.{sections, network-in, network-end, front-checked, leading}
 use Rattle.file.specs.declared.checker.OpenedFile.{OpenedFile}
 use Rattle.file.specs.File.{File, table-words, network-part, image-section, most-scans, run-section, after-network, file-sections, no-file, file-in, file-checked, opened-file}

@@ -7,13 +7,13 @@ use mathlib.Core.Bool.{Bool}
 use mathlib.Core.List.{List, [], _∷_, _++_, map}
 use lib.Dec.{eqb}
 use lib.ListN.{take, replicate}
-use Rattle.bits.specs.declared.Verdict.{Verdict}
+use Rattle.verdict.specs.declared.Verdict.{Verdict}
 use Rattle.file.specs.declared.checker.OpenedFile.{OpenedFile}
 use Rattle.section.specs.Walk.{first-of}
 use Rattle.section.specs.Section.{Section, meaning, whole, Part, lifted}
-use Rattle.network.specs.Table.{total}
+use Rattle.table.specs.Table.{total}
 use Rattle.network.specs.Network.{Network}
-use Rattle.network.specs.Fault.{counted}
+use Rattle.section.specs.Limit.{counted}
 use Rattle.network.specs.Check.{sections, no-network, network-end, leading}
 
 -- a file as a value: its network, the words of its image, and the scans of its run
@@ -80,3 +80,11 @@ opened-file ws odd = record {
   words = table-words (file-in ws);
   scans = file-in ws .run;
 }
+
+-- ---- what the code may rely on, whatever the words are: a network ends at 6 + 15 * 65535 at the latest, and four areas have
+-- 4 * 65535 words at most
+abbrev pub last-end : ℕ
+last-end = 983031
+
+abbrev pub largest-table : ℕ
+largest-table = 262140

@@ -1,15 +1,16 @@
 // The verdict on a whole file: the network at its front, then the image, then the run, each word when it is reached.
-use bits::Verdict;
 use network::Opened;
+use section::counted;
 use section::word;
+use verdict::Verdict;
 ghost use mathlib.Core.Path.{_≡_};
 ghost use mathlib.Core.List.{[], _∷_};
 ghost use Prim.Native.Nat.{_+_, _≤_, _<_};
 ghost use lib.ListN.{length, drop};
-ghost use Rattle.section.specs.Walk.{then, left-over};
+ghost use Rattle.section.specs.Walk.{left-over};
+ghost use Rattle.verdict.specs.Verdict.{then};
 ghost use Rattle.section.specs.Section.{end, judged-from};
-ghost use Rattle.network.specs.Fault.{counted};
-ghost use Rattle.file.specs.File.{File, table-words, image-section, run-section, most-scans, after-network, opened-file};
+ghost use Rattle.file.specs.File.{File, table-words, image-section, run-section, after-network, opened-file, last-end, largest-table};
 
 // The verdict on a file with what its words spell: the network at its front, the index of the image's first word, how many words
 // the image has, and the scans.
@@ -22,24 +23,11 @@ pub struct OpenedFile {
 }
 
 // The most scans of a run.
-const MOST_SCANS: u16 = 1000;
-
-// Nothing for 1 to 1000 scans, else 3.
-fn scans_fault(scans: u16) -> u16
-    ensures { λ r. ⌜ r ≡ counted most-scans scans 3 ⌝ }
-{
-    if scans < 1 {
-        return 3;
-    }
-    if scans <= MOST_SCANS {
-        return 0;
-    }
-    3
-}
+const MOST_SCANS: usize = 1000;
 
 // The first refusal of the image, which has so many words and whose count stands at an index: the words only have to be there.
 fn image(words: &[u16], at: usize, table: usize) -> Verdict
-    requires { ⌜ (at < 990000) × (table ≤ 262140) ⌝ }
+    requires { ⌜ (at ≤ last-end) × (table ≤ largest-table) ⌝ }
     ensures { λ r. ⌜ ((f : File) → table-words f ≡ table → r ≡ judged-from (image-section ∷ []) f (now (words .entry)) at) ⌝ }
 {
     let verdict = section::count(word(words, at) as usize == table, at as u32, words.len());
@@ -60,7 +48,7 @@ fn image(words: &[u16], at: usize, table: usize) -> Verdict
 
 // The first refusal of the run, whose count stands at an index.
 fn run(words: &[u16], at: usize) -> Verdict
-    requires { ⌜ at < 1990000 ⌝ }
+    requires { ⌜ at ≤ last-end + 1 + largest-table ⌝ }
     ensures { λ r. ⌜ ((f : File) → r ≡ judged-from (run-section ∷ []) f (now (words .entry)) at) ⌝ }
 {
     let verdict = section::count(word(words, at) == 1, at as u32, words.len());
@@ -72,7 +60,7 @@ fn run(words: &[u16], at: usize) -> Verdict
     if words.len() <= i {
         return Verdict { number: 1, place };
     }
-    let number = scans_fault(word(words, i));
+    let number = counted(MOST_SCANS, word(words, i) as usize, 3);
     if number != 0 {
         return Verdict { number, place };
     }
@@ -84,7 +72,7 @@ fn run(words: &[u16], at: usize) -> Verdict
 
 // The first refusal after the network: the image, the run, then what is left over.
 fn tail(words: &[u16], at: usize, table: usize, odd: bool) -> Verdict
-    requires { ⌜ (at < 990000) × (table ≤ 262140) ⌝ }
+    requires { ⌜ (at ≤ last-end) × (table ≤ largest-table) ⌝ }
     ensures { λ r. ⌜
         ((f : File) → table-words f ≡ table →
         r ≡ then (judged-from after-network f (now (words .entry)) at)
@@ -124,7 +112,7 @@ pub fn check(words: &[u16], odd: bool) -> OpenedFile
 {
     let network = network::leading(words);
     let next = network.next;
-    let table = network::total(network.sizes) as usize;
+    let table = table::total(network.sizes) as usize;
     let image = next + 1;
     let scans = word(words, image + table + 1);
     let verdict = network.verdict;

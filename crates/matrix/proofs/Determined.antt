@@ -2,21 +2,14 @@
 -- one equation for the answer and one for the table. Assumes nothing.
 use mathlib.Core.Path.{sym, _∙_}
 use denote.Ref.{now}
-use Rattle.bits.specs.Promise.{Decides, DecidesBoth}
+use Rattle.verdict.specs.Promise.{Decides, DecidesBoth}
 use Rattle.matrix.proofs.logic.combine.Reads as combine-reads
-use Rattle.matrix.proofs.search.first_difference.Reads as first-difference-reads
 use Rattle.matrix.proofs.shift.move_one.Reads as move-one-reads
 use Rattle.matrix.proofs.single.read_bit.Reads as read-bit-reads
 use Rattle.matrix.proofs.single.put_bit.Reads as put-bit-reads
-use Rattle.matrix.proofs.pointer.Pointer.reset.Reads as reset-reads
-use Rattle.matrix.proofs.pointer.Pointer.in_range.Reads as in-range-reads
-use Rattle.matrix.proofs.pointer.Pointer.advance.Reads as advance-reads
 
 pub combine : DecidesBoth combine-reads.Post (λ κs s. now (s .0))
 combine κs a x y s t p q = (p .answers ∙ sym (q .answers), p .leaves ∙ sym (q .leaves))
-
-pub first-difference : Decides first-difference-reads.Post
-first-difference κs a x y s t p q = p ∙ sym q
 
 pub move-one : DecidesBoth move-one-reads.Post (λ κs s. now (s .0))
 move-one κs a x y s t p q = (p .answers ∙ sym (q .answers), p .leaves ∙ sym (q .leaves))
@@ -26,12 +19,3 @@ read-bit κs a x y s t p q = p ∙ sym q
 
 pub put-bit : DecidesBoth put-bit-reads.Post (λ κs s. now (s .0))
 put-bit κs a x y s t p q = (p .answers ∙ sym (q .answers), p .leaves ∙ sym (q .leaves))
-
-pub reset : Decides reset-reads.Post
-reset κs a x y s t p q = p ∙ sym q
-
-pub in-range : Decides in-range-reads.Post
-in-range κs a x y s t p q = p ∙ sym q
-
-pub advance : Decides advance-reads.Post
-advance κs a x y s t p q = p ∙ sym q

@@ -4,21 +4,17 @@ use mathlib.Core.Path.{_≡_, refl}
 use mathlib.Core.Bool.{Bool, true, false, xor}
 use mathlib.Core.List.{List, [], _∷_}
 use Prim.Native.Nat.{ℕ}
-use Rattle.bits.specs.declared.Verdict.{Verdict}
+use Rattle.verdict.specs.declared.Verdict.{Verdict}
 use Rattle.bits.specs.Bit.{bit, value, matrix}
 use Rattle.matrix.specs.declared.logic.Operation.{Operation}
 use Rattle.matrix.specs.declared.logic.Operation.the-variants.{And, Or, Xor, Comp}
-use Rattle.matrix.specs.declared.search.Difference.{Difference}
-use Rattle.matrix.specs.declared.search.Difference.the-variants.{At, Nothing, Refused as Not-searched}
 use Rattle.matrix.specs.declared.answer.Answer.{Answer}
 use Rattle.matrix.specs.declared.answer.Answer.the-variants.{Bit, Refused}
-use Rattle.matrix.specs.declared.pointer.Pointer.{Pointer}
-use Rattle.matrix.specs.Run.{fault, fault-at, verdict}
+use Rattle.runs.specs.Run.{fault, fault-at}
+use Rattle.verdict.specs.Verdict.{placeless}
 use Rattle.matrix.specs.Logic.{combined, combine-verdict, combine-table}
-use Rattle.matrix.specs.Search.{first, first-difference}
 use Rattle.matrix.specs.Move.{moved, move-answer, move-table}
 use Rattle.matrix.specs.Single.{read-answer, put-verdict, put-table}
-use Rattle.matrix.specs.Pointer.{reset, in-range, advanced}
 
 -- ---- AND, OR, XOR, COMP, from word s to word d: P1 to P4; the overlap of P12, and the same the other way; a length of 0
 -- and of 101, and a run that leaves the table
@@ -37,51 +33,18 @@ pub logic-examples :
     ∷ combine Comp (0x3000 ∷ 0x5000 ∷ []) 0 1 101
     ∷ combine Comp (0x3000 ∷ 0x5000 ∷ []) 0 1 2
     ∷ [])
-    ((verdict 0, 0x3000 ∷ 0x1000 ∷ [])
-    ∷ (verdict 0, 0x3000 ∷ 0x7000 ∷ [])
-    ∷ (verdict 0, 0x3000 ∷ 0x6000 ∷ [])
-    ∷ (verdict 0, 0x3000 ∷ 0xcfff ∷ [])
-    ∷ (verdict 0, 0x0000 ∷ 0xffff ∷ 0xf0f0 ∷ [])
-    ∷ (verdict 0, 0xf0f0 ∷ 0xedcb ∷ 0x1234 ∷ [])
-    ∷ (verdict 5, 0x3000 ∷ 0x5000 ∷ [])
-    ∷ (verdict 5, 0x3000 ∷ 0x5000 ∷ [])
-    ∷ (verdict 8, 0x3000 ∷ 0x5000 ∷ [])
+    ((placeless 0, 0x3000 ∷ 0x1000 ∷ [])
+    ∷ (placeless 0, 0x3000 ∷ 0x7000 ∷ [])
+    ∷ (placeless 0, 0x3000 ∷ 0x6000 ∷ [])
+    ∷ (placeless 0, 0x3000 ∷ 0xcfff ∷ [])
+    ∷ (placeless 0, 0x0000 ∷ 0xffff ∷ 0xf0f0 ∷ [])
+    ∷ (placeless 0, 0xf0f0 ∷ 0xedcb ∷ 0x1234 ∷ [])
+    ∷ (placeless 5, 0x3000 ∷ 0x5000 ∷ [])
+    ∷ (placeless 5, 0x3000 ∷ 0x5000 ∷ [])
+    ∷ (placeless 8, 0x3000 ∷ 0x5000 ∷ [])
     ∷ [])
 unfolding combine-table combined fault matrix value bit xor
 logic-examples = refl
-
--- ---- the search, of a matrix at word 0 against one at word 1, above a start: what P5 to P9 rest on; a start past the end;
--- two words, with the difference in the second; the refusals
-pub search-examples :
-    _≡_ {A = List Difference}
-    (first-difference (0x8001 ∷ 0x0000 ∷ []) 0 1 1 0
-    ∷ first-difference (0x8001 ∷ 0x0000 ∷ []) 0 1 1 1
-    ∷ first-difference (0x8001 ∷ 0x0000 ∷ []) 0 1 1 15
-    ∷ first-difference (0x8001 ∷ 0x0000 ∷ []) 0 1 1 16
-    ∷ first-difference (0x0000 ∷ 0x4000 ∷ []) 0 1 1 0
-    ∷ first-difference (0x0000 ∷ 0x4000 ∷ []) 0 1 1 2
-    ∷ first-difference (0x8001 ∷ 0x0000 ∷ []) 0 1 1 65535
-    ∷ first-difference (0x1234 ∷ 0x0001 ∷ 0x1234 ∷ 0x0000 ∷ []) 0 2 2 0
-    ∷ first-difference (0x1234 ∷ 0x0001 ∷ 0x1234 ∷ 0x0000 ∷ []) 0 2 2 31
-    ∷ first-difference (0x1234 ∷ 0x0001 ∷ 0x1234 ∷ 0x0000 ∷ []) 0 2 2 32
-    ∷ first-difference (0x8001 ∷ 0x0000 ∷ []) 0 1 0 0
-    ∷ first-difference (0x8001 ∷ 0x0000 ∷ []) 0 1 2 0
-    ∷ [])
-    (At 1
-    ∷ At 16
-    ∷ At 16
-    ∷ Nothing
-    ∷ At 2
-    ∷ Nothing
-    ∷ Nothing
-    ∷ At 32
-    ∷ At 32
-    ∷ Nothing
-    ∷ Not-searched (verdict 5)
-    ∷ Not-searched (verdict 8)
-    ∷ [])
-unfolding first-difference first fault matrix value bit xor
-search-examples = refl
 
 -- ---- the move, from word s to word d: P10, with and without wrap; P11; to the left in place; the overlap both ways
 abbrev move : Bool → Bool → List ℕ → ℕ → ℕ → ℕ → Answer × List ℕ
@@ -104,8 +67,8 @@ pub move-examples :
     ∷ (Bit true, 0x0000 ∷ 0x0002 ∷ [])
     ∷ (Bit false, 0x0001 ∷ 0x0000 ∷ 0xc000 ∷ [])
     ∷ (Bit false, 0x0000 ∷ 0xc000 ∷ 0x8000 ∷ [])
-    ∷ (Refused (verdict 8), 0x0001 ∷ [])
-    ∷ (Refused (verdict 5), 0x0001 ∷ [])
+    ∷ (Refused (placeless 8), 0x0001 ∷ [])
+    ∷ (Refused (placeless 5), 0x0001 ∷ [])
     ∷ [])
 unfolding move-answer move-table moved fault matrix value bit
 move-examples = refl
@@ -121,7 +84,7 @@ pub read-examples :
     ∷ read-answer (0x8000 ∷ 0x8001 ∷ []) 0 2 33
     ∷ read-answer (0x8000 ∷ 0x8001 ∷ []) 0 256 1
     ∷ [])
-    (Bit true ∷ Bit false ∷ Bit true ∷ Bit true ∷ Refused (verdict 8) ∷ Refused (verdict 8) ∷ Refused (verdict 5) ∷ [])
+    (Bit true ∷ Bit false ∷ Bit true ∷ Bit true ∷ Refused (placeless 8) ∷ Refused (placeless 8) ∷ Refused (placeless 5) ∷ [])
 unfolding read-answer fault-at fault bit
 read-examples = refl
 
@@ -136,30 +99,11 @@ pub put-examples :
     ∷ put (0x0000 ∷ []) 0 1 17 true
     ∷ put (0x0000 ∷ []) 0 1 0 true
     ∷ [])
-    ((verdict 0, 0x0001 ∷ [])
-    ∷ (verdict 0, 0x0000 ∷ 0x8000 ∷ [])
-    ∷ (verdict 0, 0x7fff ∷ 0xffff ∷ [])
-    ∷ (verdict 8, 0x0000 ∷ [])
-    ∷ (verdict 8, 0x0000 ∷ [])
+    ((placeless 0, 0x0001 ∷ [])
+    ∷ (placeless 0, 0x0000 ∷ 0x8000 ∷ [])
+    ∷ (placeless 0, 0x7fff ∷ 0xffff ∷ [])
+    ∷ (placeless 8, 0x0000 ∷ [])
+    ∷ (placeless 8, 0x0000 ∷ [])
     ∷ [])
 unfolding put-table fault-at fault matrix value bit
 put-examples = refl
-
--- ---- the pointer's edges, at size 16 unless said; 0, 15, 17, 4081 and 4096 are no sizes
-abbrev pair : ℕ → ℕ → Pointer
-pair at size = record { at = at; size = size }
-
-pub pointer-examples :
-    _≡_ {A = List Pointer}
-    (reset (pair 7 16) 0 ∷ reset (pair 7 16) 1 ∷ reset (pair 7 16) 2 ∷ reset (pair 7 15) 0
-    ∷ in-range (pair 0 16) ∷ in-range (pair 15 16) ∷ in-range (pair 16 16) ∷ in-range (pair 65535 16) ∷ in-range (pair 65535 17)
-    ∷ advanced (pair 0 16) ∷ advanced (pair 15 16) ∷ advanced (pair 16 16) ∷ advanced (pair 17 16) ∷ advanced (pair 65535 16)
-    ∷ advanced (pair 3 0) ∷ advanced (pair 4080 4080) ∷ advanced (pair 3 4081) ∷ advanced (pair 3 4096)
-    ∷ [])
-    (pair 0 16 ∷ pair 1 16 ∷ pair 7 16 ∷ pair 7 15
-    ∷ pair 0 16 ∷ pair 15 16 ∷ pair 0 16 ∷ pair 0 16 ∷ pair 65535 17
-    ∷ pair 1 16 ∷ pair 16 16 ∷ pair 1 16 ∷ pair 17 16 ∷ pair 65535 16
-    ∷ pair 3 0 ∷ pair 1 4080 ∷ pair 3 4081 ∷ pair 3 4096
-    ∷ [])
-unfolding reset in-range advanced
-pointer-examples = refl

@@ -3,9 +3,5 @@ pub mod Determined
 pub mod Examples
 pub mod Kept
 pub mod Moving
-pub mod Pointers
-pub mod Refusals
 pub mod Runs
-pub mod Searching
 pub mod Singles
-pub mod Sought

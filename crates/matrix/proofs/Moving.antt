@@ -12,7 +12,7 @@ use native.Mathlib.Omega.{arith}
 use borrow.Author.Tests.{eq-eqb, ne-eqb}
 use lib.Dec.{lit<}
 use lib.ListN.{getD}
-use Rattle.bits.specs.Bit.{bit, of, word}
+use Rattle.bits.specs.Bit.{bit, of, word-with}
 use Rattle.bits.specs.Word.{leftward, rightward}
 use Rattle.bits.proofs.Digits.{value-cong}
 use Rattle.bits.proofs.Laws.{zero-of}
@@ -58,7 +58,7 @@ module _ (m : List ℕ) (n : ℕ) (wrap : Bool) where
         ∙ sym (entered-left (i * 16 + 16) (omega arith))
 
     left-word : (i after : ℕ) → i < n → of after 1 ≡ moved true wrap m n (i * 16 + 16)
-        → word (leftward (getD words i 0) after) ≡ word (λ p. moved true wrap m n (i * 16 + p))
+        → word-with (leftward (getD words i 0) after) ≡ word-with (λ p. moved true wrap m n (i * 16 + p))
     left-word i after l e = value-cong 16 (leftward (getD words i 0) after) (λ p. moved true wrap m n (i * 16 + p)) each
       where
         each : (j : ℕ) → j < 16 → leftward (getD words i 0) after (suc j) ≡ moved true wrap m n (i * 16 + suc j)
@@ -90,7 +90,7 @@ module _ (m : List ℕ) (n : ℕ) (wrap : Bool) where
         bits i l 15 (lit< tt) ∙ ap (bit m) at ∙ sym (beside-right ((i + 1) * 16 + 1) (λ e. omega arith))
 
     right-word : (i before : ℕ) → i < n → of before 16 ≡ moved false wrap m n (i * 16 + 1)
-        → word (rightward before (getD words i 0)) ≡ word (λ p. moved false wrap m n (i * 16 + p))
+        → word-with (rightward before (getD words i 0)) ≡ word-with (λ p. moved false wrap m n (i * 16 + p))
     right-word i before l e = value-cong 16 (rightward before (getD words i 0)) (λ p. moved false wrap m n (i * 16 + p)) each
       where
         each : (j : ℕ) → j < 16 → rightward before (getD words i 0) (suc j) ≡ moved false wrap m n (i * 16 + suc j)
@@ -106,7 +106,7 @@ module _ (m : List ℕ) (n : ℕ) (wrap : Bool) where
     -- ---- either way
     pub moved-word : (left : Bool) (i before after : ℕ) → i < n → of before 16 ≡ moved false wrap m n (i * 16 + 1)
         → of after 1 ≡ moved true wrap m n (i * 16 + 16)
-        → cond left (word (leftward (getD words i 0) after)) (word (rightward before (getD words i 0))) ≡ word (λ p. moved left wrap m n (i * 16 + p))
+        → cond left (word-with (leftward (getD words i 0) after)) (word-with (rightward before (getD words i 0))) ≡ word-with (λ p. moved left wrap m n (i * 16 + p))
     moved-word true i before after l b a = left-word i after l a
     moved-word false i before after l b a = right-word i before l b
 

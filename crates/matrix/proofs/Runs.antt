@@ -7,10 +7,9 @@ use native.Mathlib.Numerals.{add-one}
 use native.Mathlib.Omega.{arith}
 use lib.ListN.{length, getD, take, drop, set, length-drop}
 use lib.Seq.{paste, paste-zero, paste-suc, length-paste, drop-paste, take-length, getD-take, getD-drop, length-take-le}
-use Rattle.bits.specs.Bit.{bit, of, word, matrix}
+use Rattle.bits.specs.Bit.{bit, of, word-with, matrix, longest-whole}
 use Rattle.bits.proofs.Matrix.{bit-of, matrix-at, matrix-length}
-use Rattle.matrix.specs.Run.{run, placed, longest-whole}
-use Rattle.matrix.specs.Inner.{Accepted}
+use Rattle.runs.specs.Run.{run, placed, Accepted}
 
 pub run-length : (t : List ℕ) (s n : ℕ) → s + n ≤ length t → length (run t s n) ≡ n
 run-length t s n h = length-take-le n (drop s t) (simp length-drop (omega arith))
@@ -50,7 +49,7 @@ module _ {t : List ℕ} {s d n : ℕ} {f : ℕ → Bool} {source : List ℕ} whe
         ∙ ap (λ (k : ℕ). getD t k 0) e
 
     -- the next word is stored
-    pub one-more : {v : ℕ} → i < n → v ≡ word (λ p. f (i * 16 + p)) → Overwriting t s d n f source (set table (d + i) v) (i + 1)
+    pub one-more : {v : ℕ} → i < n → v ≡ word-with (λ p. f (i * 16 + p)) → Overwriting t s d n f source (set table (d + i) v) (i + 1)
     one-more {v} l e = record {
       runs = o .runs;
       copied = o .copied;

@@ -10,13 +10,13 @@ use borrow.Author.Tests.{ne-eqb}
 use lib.Dec.{eqb}
 use lib.ListN.{length, getD, take, drop, set, length-set, take-append-drop}
 use lib.Seq.{take-add, take-set-le, drop-set-add, take-set-lt, drop-set-lt, getD-set-same, getD-set-other}
-use Rattle.bits.specs.Bit.{bit, of, word, matrix}
+use Rattle.bits.specs.Bit.{bit, of, word-with, matrix}
 use Rattle.bits.specs.Word.{put}
 use Rattle.bits.proofs.Digits.{value-cong}
 use Rattle.bits.proofs.Laws.{word-of}
 use Rattle.bits.proofs.Matrix.{matrix-by-words}
 use Rattle.bits.proofs.Tests.{eqb-iff}
-use Rattle.matrix.specs.Run.{run, placed}
+use Rattle.runs.specs.Run.{run, placed}
 use Rattle.matrix.proofs.Runs.{run-length, run-at, run-bit}
 
 -- ---- a run put back in its place
@@ -52,7 +52,7 @@ module _ (t : List ℕ) (s n p : ℕ) (h : s + n ≤ length t) (l : 1 ≤ p) (u 
     after q = cond (eqb q p) on (bit (run t s n) q)
 
     -- the word that holds the position
-    put-word : word (put (getD t (s + (p - 1) / 16) 0) ((p - 1) % 16 + 1) on) ≡ word (λ q. after ((p - 1) / 16 * 16 + q))
+    put-word : word-with (put (getD t (s + (p - 1) / 16) 0) ((p - 1) % 16 + 1) on) ≡ word-with (λ q. after ((p - 1) / 16 * 16 + q))
     unfolding after
     put-word =
         let i : ℕ = (p - 1) / 16 in
@@ -63,7 +63,7 @@ module _ (t : List ℕ) (s n p : ℕ) (h : s + n ≤ length t) (l : 1 ≤ p) (u 
         (sym (run-bit t s n i r (omega arith) m)))
 
     -- any other word
-    other-word : (k : ℕ) → k < n → (k ≡ (p - 1) / 16 → ⊥) → getD t (s + k) 0 ≡ word (λ q. after (k * 16 + q))
+    other-word : (k : ℕ) → k < n → (k ≡ (p - 1) / 16 → ⊥) → getD t (s + k) 0 ≡ word-with (λ q. after (k * 16 + q))
     unfolding after
     other-word k m ne =
         word-of (getD t (s + k) 0) (λ q. after (k * 16 + q)) (small (s + k))
@@ -72,7 +72,7 @@ module _ (t : List ℕ) (s n p : ℕ) (h : s + n ≤ length t) (l : 1 ≤ p) (u 
         ∙ ap (λ (e : Bool). cond e on (bit (run t s n) (k * 16 + suc r))) (sym (ne-eqb (k * 16 + suc r) p (λ e. ne (omega arith)))))
 
     -- all words, with that one stored
-    stored-words : (v : ℕ) → v ≡ word (λ q. after ((p - 1) / 16 * 16 + q)) → set (run t s n) ((p - 1) / 16) v ≡ matrix n after
+    stored-words : (v : ℕ) → v ≡ word-with (λ q. after ((p - 1) / 16 * 16 + q)) → set (run t s n) ((p - 1) / 16) v ≡ matrix n after
     stored-words v e =
         let i : ℕ = (p - 1) / 16 in
         matrix-by-words (set (run t s n) i v) n after (length-set (run t s n) i v ∙ run-length t s n h)
@@ -81,11 +81,11 @@ module _ (t : List ℕ) (s n p : ℕ) (h : s + n ≤ length t) (l : 1 ≤ p) (u 
               ap (λ (x : ℕ). getD (set (run t s n) i v) x 0) q
               ∙ getD-set-same (run t s n) i v 0 (omega (arith, run-length t s n h))
               ∙ e
-              ∙ ap (λ (x : ℕ). word (λ q′. after (x * 16 + q′))) (sym q)
+              ∙ ap (λ (x : ℕ). word-with (λ q′. after (x * 16 + q′))) (sym q)
           | no d ↦ getD-set-other (run t s n) i k v 0 d ∙ run-at t s n k m ∙ other-word k m d
         ])
 
-    pub put-stored : (v : ℕ) → v ≡ word (put (getD t (s + (p - 1) / 16) 0) ((p - 1) % 16 + 1) on)
+    pub put-stored : (v : ℕ) → v ≡ word-with (put (getD t (s + (p - 1) / 16) 0) ((p - 1) % 16 + 1) on)
         → set t (s + (p - 1) / 16) v ≡ placed t s (matrix n (λ q. cond (eqb q p) on (bit (run t s n) q)))
     unfolding after
     put-stored v e =

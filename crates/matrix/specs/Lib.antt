@@ -1,8 +1,4 @@
--- What the contracts of `matrix` cite, in document 01's order: runs of words and their refusals, then what is done to them.
-pub mod Run
+-- What the contracts of `matrix` cite, in document 01's order: what is done to the runs of words of a table.
 pub mod Logic
-pub mod Search
 pub mod Move
 pub mod Single
-pub mod Pointer
-pub mod Inner

@@ -4,10 +4,11 @@ use Prim.Native.Nat.{ℕ}
 use mathlib.Core.Bool.{Bool, not, _&&_, _||_, xor}
 use mathlib.Core.List.{List}
 use lib.ListN.{length}
-use Rattle.bits.specs.declared.Verdict.{Verdict}
-use Rattle.bits.specs.Bit.{bit, matrix}
+use Rattle.verdict.specs.declared.Verdict.{Verdict}
+use Rattle.bits.specs.Bit.{bit, matrix, longest-whole}
 use Rattle.matrix.specs.declared.{logic.Operation.Operation, logic.Operation.the-variants.And, logic.Operation.the-variants.Or, logic.Operation.the-variants.Xor, logic.Operation.the-variants.Comp}
-use Rattle.matrix.specs.Run.{run, placed, longest-whole, fault, verdict, unless}
+use Rattle.runs.specs.Run.{run, placed, fault, unless}
+use Rattle.verdict.specs.Verdict.{placeless}
 
 -- the operation on a bit of the source and the destination's bit at its position
 unfoldable pub combined : Operation → Bool → Bool → Bool
@@ -21,7 +22,7 @@ abbrev pub combine-fault : List ℕ → ℕ → ℕ → ℕ → ℕ
 combine-fault t s d n = fault longest-whole (length t) n s d
 
 abbrev pub combine-verdict : List ℕ → ℕ → ℕ → ℕ → Verdict
-combine-verdict t s d n = verdict (combine-fault t s d n)
+combine-verdict t s d n = placeless (combine-fault t s d n)
 
 unfoldable pub combine-table : Operation → List ℕ → ℕ → ℕ → ℕ → List ℕ
 combine-table operation t s d n =

@@ -5,9 +5,10 @@ use mathlib.Core.Bool.{Bool, cond, _&&_}
 use mathlib.Core.List.{List}
 use lib.Dec.{eqb}
 use lib.ListN.{length}
-use Rattle.bits.specs.Bit.{bit, matrix}
+use Rattle.bits.specs.Bit.{bit, matrix, longest-whole}
 use Rattle.matrix.specs.declared.{answer.Answer.Answer, answer.Answer.the-variants.Bit, answer.Answer.the-variants.Refused}
-use Rattle.matrix.specs.Run.{run, placed, longest-whole, fault, verdict, unless}
+use Rattle.runs.specs.Run.{run, placed, fault, unless}
+use Rattle.verdict.specs.Verdict.{placeless}
 
 -- the bit of an n-word matrix that leaves it
 abbrev pub leaving : Bool → List ℕ → ℕ → Bool
@@ -29,7 +30,7 @@ unfoldable pub move-answer : Bool → List ℕ → ℕ → ℕ → ℕ → Answe
 move-answer left t s d n =
     unless (fault longest-whole (length t) n s d)
     (Bit (leaving left (run t s n) n))
-    (Refused (verdict (fault longest-whole (length t) n s d)))
+    (Refused (placeless (fault longest-whole (length t) n s d)))
 
 unfoldable pub move-table : Bool → Bool → List ℕ → ℕ → ℕ → ℕ → List ℕ
 unfolding moved

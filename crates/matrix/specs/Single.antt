@@ -4,18 +4,19 @@ use mathlib.Core.Bool.{Bool, cond}
 use mathlib.Core.List.{List}
 use lib.Dec.{eqb}
 use lib.ListN.{length}
-use Rattle.bits.specs.declared.Verdict.{Verdict}
+use Rattle.verdict.specs.declared.Verdict.{Verdict}
 use Rattle.bits.specs.Bit.{bit, matrix}
 use Rattle.matrix.specs.declared.{answer.Answer.Answer, answer.Answer.the-variants.Bit, answer.Answer.the-variants.Refused}
-use Rattle.matrix.specs.Run.{run, placed, fault-at, verdict, unless}
+use Rattle.runs.specs.Run.{run, placed, fault-at, unless}
+use Rattle.verdict.specs.Verdict.{placeless}
 
 -- the matrix is the n words from s on
 unfoldable pub read-answer : List ℕ → ℕ → ℕ → ℕ → Answer
 read-answer t s n p =
-    unless (fault-at (length t) n s p) (Bit (bit (run t s n) p)) (Refused (verdict (fault-at (length t) n s p)))
+    unless (fault-at (length t) n s p) (Bit (bit (run t s n) p)) (Refused (placeless (fault-at (length t) n s p)))
 
 abbrev pub put-verdict : List ℕ → ℕ → ℕ → ℕ → Verdict
-put-verdict t s n p = verdict (fault-at (length t) n s p)
+put-verdict t s n p = placeless (fault-at (length t) n s p)
 
 -- every other bit stays as it was
 unfoldable pub put-table : List ℕ → ℕ → ℕ → ℕ → Bool → List ℕ

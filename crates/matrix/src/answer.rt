@@ -1,4 +1,4 @@
-use bits::Verdict;
+use verdict::Verdict;
 
 // A bit, or a refusal.
 pub enum Answer {

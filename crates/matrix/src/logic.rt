@@ -1,12 +1,12 @@
 // AND, OR, XOR and COMP over the matrices of a table.
-use crate::run::LONGEST_WHOLE;
-use crate::run::copied;
-use crate::run::fault;
-use bits::Verdict;
+use crate::copy::copied;
+use bits::LONGEST_WHOLE;
+use runs::fault;
+use verdict::Verdict;
 ghost use mathlib.Core.Path.{_≡_};
 ghost use Prim.Native.Nat.{_+_, _<_};
-ghost use Rattle.bits.specs.Bit.{of, word};
-ghost use Rattle.bits.specs.Promise.{Leaves};
+ghost use Rattle.bits.specs.Bit.{of, word-with};
+ghost use Rattle.verdict.specs.Promise.{Leaves};
 ghost use Rattle.matrix.specs.Logic.{combined, combine-verdict, combine-table};
 
 pub enum Operation {
@@ -18,7 +18,7 @@ pub enum Operation {
 
 // The operation on a word of the source and the destination's word at its place.
 fn combined(operation: Operation, s: u16, d: u16) -> u16
-    ensures { λ r. ⌜ r ≡ word (λ p. combined operation (of s p) (of d p)) ⌝ }
+    ensures { λ r. ⌜ r ≡ word-with (λ p. combined operation (of s p) (of d p)) ⌝ }
 {
     match operation {
         Operation::And => bits::and_words(s, d),

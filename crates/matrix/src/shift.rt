@@ -1,19 +1,19 @@
 // A matrix moved by one position.
 use crate::answer::Answer;
-use crate::run::LONGEST_WHOLE;
-use crate::run::copied;
-use crate::run::fault;
-use bits::Verdict;
+use crate::copy::copied;
+use bits::LONGEST_WHOLE;
+use runs::fault;
+use verdict::Verdict;
 ghost use mathlib.Core.Path.{_≡_};
 ghost use mathlib.Core.Bool.{cond};
-ghost use Rattle.bits.specs.Bit.{of, word};
+ghost use Rattle.bits.specs.Bit.{of, word-with};
 ghost use Rattle.bits.specs.Word.{rightward, leftward};
-ghost use Rattle.bits.specs.Promise.{Leaves};
+ghost use Rattle.verdict.specs.Promise.{Leaves};
 ghost use Rattle.matrix.specs.Move.{move-answer, move-table};
 
 // A word moved by one, with the end bit of the word after it or before it masked in.
 fn moved(left: bool, before: u16, w: u16, after: u16) -> u16
-    ensures { λ r. ⌜ r ≡ cond left (word (leftward w after)) (word (rightward before w)) ⌝ }
+    ensures { λ r. ⌜ r ≡ cond left (word-with (leftward w after)) (word-with (rightward before w)) ⌝ }
 {
     if left {
         return bits::move_left(w, after);

@@ -1,9 +1,9 @@
 // One bit of a matrix.
 use crate::answer::Answer;
-use crate::run::fault_at;
-use bits::Verdict;
+use runs::fault_at;
+use verdict::Verdict;
 ghost use mathlib.Core.Path.{_≡_};
-ghost use Rattle.bits.specs.Promise.{Leaves};
+ghost use Rattle.verdict.specs.Promise.{Leaves};
 ghost use Rattle.matrix.specs.Single.{read-answer, put-verdict, put-table};
 
 // The bit at position p of the n words from s on.

@@ -6,18 +6,20 @@ use Prim.Native.Nat.{ℕ, zero, suc, _+_, _*_, _≤_}
 use native.Mathlib.Omega.{arith}
 use lib.ListN.{length, take, drop, length-append, length-drop}
 use lib.Seq.{take-at, take-add, take-all, length-take-le}
-use Rattle.bits.specs.declared.Verdict.{Verdict}
-use Rattle.section.specs.Walk.{word, done}
+use Rattle.verdict.specs.declared.Verdict.{Verdict}
+use Rattle.section.specs.Walk.{word}
+use Rattle.verdict.specs.Verdict.{done}
 use Rattle.section.specs.Section.{section-earns, meaning, records-in}
-use Rattle.network.specs.declared.sizes.Sizes.{Sizes}
-use Rattle.network.specs.declared.block.Block.{Block}
-use Rattle.network.specs.Record.{record-words, block-in, spelled}
+use Rattle.table.specs.declared.sizes.Sizes.{Sizes}
+use Rattle.table.specs.Table.{sizes-faults}
+use Rattle.record.specs.declared.Block.{Block}
+use Rattle.record.specs.Record.{record-words, block-in, spelled}
+use Rattle.record.proofs.Words.{spelled-long, spelled-back, spelled-rest, fifteen}
 use Rattle.network.specs.Network.{Network, block-count, words-of}
-use Rattle.network.specs.Check.{sizes-in, sizes-faults, areas-section, blocks-section, network-in, network-end, front-checked, checked, leading, opened}
+use Rattle.network.specs.Check.{sizes-in, areas-section, blocks-section, network-in, network-end, front-checked, checked, leading, opened}
 use Rattle.network.specs.Sound.{GoodNetwork, Sound, AcceptsExactly, SpellsBack}
 use Rattle.network.proofs.Good.{front-good, good-front, good-whole, whole-front}
 use Rattle.network.proofs.Networks.{sizes-is, blocks-are, count-is, end-is, front-done}
-use Rattle.network.proofs.Words.{spelled-long, spelled-back, spelled-rest, fifteen}
 
 -- ---- a network's words, whatever follows them
 blocks-long : (bs : List Block) → length (flatMap spelled bs) ≡ record-words * length bs

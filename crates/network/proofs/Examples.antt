@@ -2,17 +2,17 @@
 use mathlib.Core.Path.{_≡_, refl}
 use mathlib.Core.List.{List, [], _∷_, _++_}
 use Prim.Native.Nat.{ℕ}
-use Rattle.bits.specs.declared.Verdict.{Verdict}
-use Rattle.section.specs.Walk.{verdict, done, seek}
+use Rattle.verdict.specs.declared.Verdict.{Verdict}
+use Rattle.section.specs.Walk.{seek}
+use Rattle.verdict.specs.Verdict.{verdict, done}
 use Rattle.section.specs.Section.{section-earns, earned, meaning, judged-from, whole, records-earn, records-in}
-use Rattle.network.specs.declared.sizes.Sizes.{Sizes}
-use Rattle.network.specs.declared.reader.Read.{Read}
-use Rattle.network.specs.declared.reader.Read.the-variants.{Record, Refused}
-use Rattle.network.specs.Table.{reference-fault, start-of, shown, part}
-use Rattle.network.specs.Rules.{rule, allows}
-use Rattle.network.specs.Record.{block-in, spelled}
-use Rattle.network.specs.Fault.{faults}
-use Rattle.network.specs.Check.{sizes-faults, areas-section, block-faults, blocks-section, network-in, checked, read-at, read, write-verdict, write-buffer}
+use Rattle.table.specs.Table.{sizes-faults, reference-fault}
+use Rattle.record.specs.Record.{block-in}
+use Rattle.rules.specs.Rules.{rule, allows}
+use Rattle.rules.specs.Fault.{faults}
+use Rattle.network.specs.declared.reading.Read.{Read}
+use Rattle.network.specs.declared.reading.Read.the-variants.{Record, Refused}
+use Rattle.network.specs.Check.{areas-section, block-faults, blocks-section, network-in, checked, read-at, read}
 
 -- a block's 15 words: kind, n, top and middle node, then three inputs and three coils
 abbrev block : ℕ → ℕ → ℕ → ℕ → ℕ → ℕ → List ℕ → List ℕ
@@ -99,13 +99,7 @@ pub edges :
 unfolding checked whole judged-from seek earned section-earns records-earn areas-section sizes-faults blocks-section block-faults faults block-in reference-fault rule allows
 edges = refl
 
--- 12: a block that is not there; and the writer's own order: sizes, then k, then the words, then the buffer
-abbrev small : Sizes
-small = record { coils = 0; discretes = 0; inputs = 0; holding = 3 }
-
-abbrev huge : Sizes
-huge = record { coils = 129; discretes = 0; inputs = 0; holding = 3 }
-
+-- 12: a block that is not there
 abbrev compare : List ℕ
 compare = 5 ∷ 1 ∷ 4 ∷ 1 ∷ 4 ∷ 2 ∷ plain
 
@@ -118,34 +112,3 @@ pub readings :
     (Record (block-in compare) ∷ Refused (verdict 12 0) ∷ Refused (verdict 12 0) ∷ Refused (verdict 8 12) ∷ [])
 unfolding read-at network-in meaning records-in checked whole judged-from seek earned section-earns records-earn areas-section sizes-faults blocks-section block-faults faults block-in reference-fault rule allows
 readings = refl
-
-abbrev blank : List ℕ
-blank = 0 ∷ 0 ∷ 0 ∷ 0 ∷ 0 ∷ 0 ∷ 0 ∷ 0 ∷ 0 ∷ 0 ∷ 0 ∷ 0 ∷ 0 ∷ 0 ∷ 0 ∷ []
-
-abbrev written : Sizes → ℕ → List ℕ → List ℕ → Verdict × List ℕ
-written z k words buffer = (write-verdict z k (block-in words) buffer, write-buffer z k (block-in words) buffer)
-
-pub writings :
-    _≡_ {A = List (Verdict × List ℕ)}
-    (written small 1 compare blank ∷ written huge 0 wrong [] ∷ written small 0 wrong [] ∷ written small 129 wrong [] ∷ written small 1 wrong [] ∷ written small 1 compare [] ∷ [])
-    ((done, compare) ∷ (verdict 3 0, []) ∷ (verdict 12 0, []) ∷ (verdict 12 0, []) ∷ (verdict 8 6, []) ∷ (verdict 12 0, []) ∷ [])
-unfolding write-buffer write-verdict seek faults block-in spelled reference-fault rule allows
-writings = refl
-
--- the part of a table that is a matrix: coils, discrete inputs, input registers, holding registers; and empty parts
-abbrev four-areas : Sizes
-four-areas = record { coils = 2; discretes = 1; inputs = 1; holding = 2 }
-
-abbrev table : List ℕ
-table = 1 ∷ 2 ∷ 3 ∷ 4 ∷ 5 ∷ 6 ∷ []
-
-pub parts :
-    _≡_ {A = List (List ℕ)}
-    (part table four-areas 0 1 2 ∷ part table four-areas 0 17 1 ∷ part table four-areas 1 1 1 ∷ part table four-areas 3 1 1 ∷ part table four-areas 4 1 2 ∷ part table four-areas 4 2 1
-    ∷ part table four-areas 0 16 1 ∷ part table four-areas 4 2 2 ∷ part table four-areas 4 0 1 ∷ part table four-areas 9 1 1 ∷ part table four-areas 2 1 1
-    ∷ part table four-areas 4 1 0 ∷ part (0 ∷ table) four-areas 4 1 1 ∷ part table huge 4 1 1 ∷ [])
-    ((1 ∷ 2 ∷ []) ∷ (2 ∷ []) ∷ (3 ∷ []) ∷ (4 ∷ []) ∷ (5 ∷ 6 ∷ []) ∷ (6 ∷ [])
-    ∷ [] ∷ [] ∷ [] ∷ [] ∷ []
-    ∷ [] ∷ [] ∷ [] ∷ [])
-unfolding part shown reference-fault start-of
-parts = refl

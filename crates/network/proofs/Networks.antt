@@ -8,19 +8,21 @@ use native.Mathlib.Numerals.{add-one}
 use native.Mathlib.Omega.{arith}
 use lib.Dec.{leb}
 use lib.ListN.{length, getD, drop, length-append}
-use Rattle.bits.specs.declared.Verdict.{Verdict}
-use Rattle.section.specs.Walk.{word, verdict, done, then, seek, left-over}
+use Rattle.verdict.specs.declared.Verdict.{Verdict}
+use Rattle.section.specs.Walk.{word, seek, left-over}
+use Rattle.verdict.specs.Verdict.{verdict, done, then}
 use Rattle.section.specs.Section.{section-earns, earned, meaning, judged-from, whole, records-earn, records-in}
 use Rattle.section.proofs.Walk.{then-first, then-next, seek-done, turn-refused, turn-passed, turn-last}
 use Rattle.section.proofs.Sections.{none-over, some-over}
 use Rattle.section.proofs.Records.{records-count, record-is, words-count}
-use Rattle.network.specs.declared.sizes.Sizes.{Sizes}
-use Rattle.network.specs.declared.checker.Opened.{Opened}
-use Rattle.network.specs.Record.{record-words, block-in}
-use Rattle.network.specs.Network.{Network, areas-only, block-count, block-of, no-block}
-use Rattle.network.specs.Check.{sizes-in, sizes-faults, areas-section, most-blocks, block-faults, blocks-section, sections, no-network, network-in, network-end, front-checked, checked, opened-with, leading, opened, record-start}
-use Rattle.network.proofs.Faults.{faults-long}
 use Rattle.section.proofs.Words.{word-from, rest-from}
+use Rattle.table.specs.declared.sizes.Sizes.{Sizes}
+use Rattle.table.specs.Table.{sizes-faults}
+use Rattle.record.specs.Record.{record-words, block-in}
+use Rattle.rules.proofs.Faults.{faults-long}
+use Rattle.network.specs.declared.checker.Opened.{Opened}
+use Rattle.network.specs.Network.{Network, areas-only, block-count, block-of, no-block}
+use Rattle.network.specs.Check.{sizes-in, areas-section, most-blocks, block-faults, blocks-section, sections, no-network, network-in, network-end, front-checked, checked, opened-with, leading, opened, record-start}
 
 -- what a record's words earn is as long as the record
 pub block-faults-long : (z : Sizes) (earlier : ℕ) (ws : List ℕ) → length (block-faults z earlier ws) ≡ record-words

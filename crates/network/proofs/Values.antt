@@ -5,15 +5,15 @@ use mathlib.Core.List.{List}
 use Prim.Native.Nat.{ℕ, _+_, _-_, _<_}
 use native.Mathlib.Omega.{arith}
 use lib.ListN.{drop}
+use Rattle.record.specs.Record.{block-in}
 use Rattle.network.specs.declared.checker.Opened.{Opened}
-use Rattle.network.specs.declared.reader.Read.the-variants.{Record}
-use Rattle.network.specs.Record.{block-in}
+use Rattle.network.specs.declared.reading.Read.the-variants.{Record}
 use Rattle.network.specs.Network.{block-of, block-count}
 use Rattle.network.specs.Check.{network-in, opened, checked, record-start, read-at}
 use Rattle.network.specs.Sound.{GoodNetwork}
 use Rattle.network.proofs.Accepted.{accepts-exactly}
 use Rattle.network.proofs.Networks.{block-is}
-use Rattle.network.proofs.Reading.{read-record}
+use Rattle.network.proofs.ReadAt.{read-record}
 
 pub accepted-good : (ws : List ℕ) → checked ws .number ≡ 0 → GoodNetwork (network-in ws)
 accepted-good ws e = accepts-exactly ws .0 e .network

@@ -4,23 +4,21 @@ use Prim.Native.Nat.{ℕ, _+_, _-_, _*_}
 use mathlib.Core.Bool.{false, cond, _&&_}
 use mathlib.Core.List.{List, [], _∷_}
 use lib.Dec.{leb, eqb}
-use lib.ListN.{length, drop}
-use Rattle.bits.specs.declared.Verdict.{Verdict}
-use Rattle.section.specs.Walk.{word, verdict, done, then, seek}
+use lib.ListN.{drop}
+use Rattle.verdict.specs.declared.Verdict.{Verdict}
+use Rattle.section.specs.Walk.{word}
+use Rattle.verdict.specs.Verdict.{verdict}
 use Rattle.section.specs.Section.{Section, meaning, end, front, whole, records-earn, records-in}
-use Rattle.network.specs.declared.{sizes.Sizes.Sizes, block.Block.Block, checker.Opened.Opened, reader.Read.Read, reader.Read.the-variants.Record, reader.Read.the-variants.Refused}
-use Rattle.network.specs.Table.{most-coils, most-discretes, most-inputs, most-holding, allowed}
-use Rattle.network.specs.Record.{record-words, block-in, spelled}
+use Rattle.table.specs.declared.sizes.Sizes.{Sizes}
+use Rattle.table.specs.Table.{sizes-faults}
+use Rattle.record.specs.Record.{record-words, block-in}
+use Rattle.rules.specs.Fault.{faults}
+use Rattle.network.specs.declared.{checker.Opened.Opened, reading.Read.Read, reading.Read.the-variants.Record, reading.Read.the-variants.Refused}
 use Rattle.network.specs.Network.{Network, areas-only, block-count}
-use Rattle.network.specs.Fault.{up-to, faults}
 
 -- ---- the areas: count 4, then the four sizes in words, each up to its limit (3)
 abbrev pub sizes-in : List ℕ → Sizes
 sizes-in ws = record { coils = word ws 0; discretes = word ws 1; inputs = word ws 2; holding = word ws 3 }
-
-unfoldable pub sizes-faults : Sizes → List ℕ
-sizes-faults z =
-    up-to most-coils (z .coils) 3 ∷ up-to most-discretes (z .discretes) 3 ∷ up-to most-inputs (z .inputs) 3 ∷ up-to most-holding (z .holding) 3 ∷ []
 
 unfoldable pub areas-section : Section Network
 areas-section = record {
@@ -87,16 +85,3 @@ read-at ws o k =
 
 abbrev pub read : List ℕ → ℕ → Read
 read ws k = read-at ws (opened ws) k
-
--- ---- the writer: the sizes (3, place 0), then k against 1 to 128 (12), then the 15 words, then the buffer (12)
-abbrev pub judged : Sizes → ℕ → Block → ℕ → ℕ → Verdict
-judged z earlier b at size = seek (faults z earlier b) size at
-
-unfoldable pub write-verdict : Sizes → ℕ → Block → List ℕ → Verdict
-write-verdict z k b buffer =
-    then (cond (allowed z) done (verdict 3 0))
-    (then (cond (leb 1 k && leb k most-blocks) done (verdict 12 0))
-    (then (judged z (k - 1) b 0 record-words) (cond (eqb (length buffer) record-words) done (verdict 12 0))))
-
-unfoldable pub write-buffer : Sizes → ℕ → Block → List ℕ → List ℕ
-write-buffer z k b buffer = cond (eqb (write-verdict z k b buffer .number) 0) (spelled b) buffer

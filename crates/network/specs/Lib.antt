@@ -1,9 +1,4 @@
--- What the contracts of `network` cite, in document 01's order: the table, a network in words, the numbers returned.
-pub mod Table
-pub mod Rules
-pub mod Record
+-- What the contracts of `network` cite: a network as a value, the verdict on its words, what a network must be.
 pub mod Network
-pub mod Fault
 pub mod Check
-pub mod Reader
 pub mod Sound

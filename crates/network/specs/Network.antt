@@ -2,8 +2,9 @@
 use Prim.Native.Nat.{ℕ}
 use mathlib.Core.List.{List, [], _∷_, flatMap}
 use lib.ListN.{length, getD}
-use Rattle.network.specs.declared.{sizes.Sizes.Sizes, block.Block.Block}
-use Rattle.network.specs.Record.{block-in, spelled}
+use Rattle.table.specs.declared.sizes.Sizes.{Sizes}
+use Rattle.record.specs.declared.Block.{Block}
+use Rattle.record.specs.Record.{block-in, spelled}
 
 pub record Network : Type 0 where
   pub sizes : Sizes

@@ -1,22 +1,18 @@
 // The checker: the areas, then the blocks, each word when it is reached.
-use crate::block::block_at;
-use crate::fault::judged;
-use crate::fault::up_to;
-use crate::sizes::MOST_COILS;
-use crate::sizes::MOST_DISCRETES;
-use crate::sizes::MOST_HOLDING;
-use crate::sizes::MOST_INPUTS;
-use crate::sizes::Sizes;
-use bits::Verdict;
+use record::block_at;
+use rules::judged;
 use section::word;
+use table::Sizes;
+use table::size_fault;
+use verdict::Verdict;
 ghost use mathlib.Core.Path.{_≡_};
-ghost use Prim.Native.Nat.{_≤_};
 ghost use lib.ListN.{length, drop};
 ghost use Rattle.section.specs.Walk.{word, seek};
-ghost use Rattle.section.specs.Section.{section-earns, section-spells, section-rest, records-earn};
-ghost use Rattle.network.specs.Record.{record-words};
+ghost use Rattle.section.specs.Section.{section-earns, records-earn};
+ghost use Rattle.table.specs.Table.{sizes-faults};
+ghost use Rattle.record.specs.Record.{record-words};
 ghost use Rattle.network.specs.Network.{areas-only};
-ghost use Rattle.network.specs.Check.{sizes-in, sizes-faults, areas-section, block-faults, blocks-section, no-network, leading, opened, checked};
+ghost use Rattle.network.specs.Check.{sizes-in, areas-section, block-faults, blocks-section, no-network, leading, opened, checked};
 
 // The verdict on a network with what its words spell: the sizes, the count of blocks, and the index after the last block.
 pub struct Opened {
@@ -27,7 +23,7 @@ pub struct Opened {
 }
 
 // The most blocks of a network.
-pub(crate) const MOST_BLOCKS: usize = 128;
+pub const MOST_BLOCKS: usize = 128;
 
 // The four sizes, which stand after their count.
 fn sizes_in(words: &[u16]) -> Sizes
@@ -38,19 +34,6 @@ fn sizes_in(words: &[u16]) -> Sizes
         discretes: word(words, 2),
         inputs: word(words, 3),
         holding: word(words, 4),
-    }
-}
-
-// The refusal that size i earns, i counted from 0, or 0.
-fn size_fault(sizes: Sizes, i: usize) -> u16
-    ensures { λ r. ⌜ r ≡ word (sizes-faults sizes) i ⌝ }
-{
-    match i {
-        0 => up_to(MOST_COILS, sizes.coils as usize, 3),
-        1 => up_to(MOST_DISCRETES, sizes.discretes as usize, 3),
-        2 => up_to(MOST_INPUTS, sizes.inputs as usize, 3),
-        3 => up_to(MOST_HOLDING, sizes.holding as usize, 3),
-        _ => 0,
     }
 }
 
@@ -90,16 +73,15 @@ fn areas(words: &[u16], sizes: Sizes) -> Verdict
 }
 
 // The first refusal among the words of so many blocks.
-fn records(words: &[u16], sizes: Sizes, count: usize) -> Verdict
-    requires { ⌜ count ≤ 65535 ⌝ }
+fn records(words: &[u16], sizes: Sizes, count: u16) -> Verdict
     ensures { λ r. ⌜
         r ≡ seek (records-earn record-words (block-faults sizes) 0 count (drop 6 (now (words .entry)))) (length (now (words .entry))) 6 ⌝ }
 {
     let mut j = 0;
     while j < count {
-        let at = 6 + 15 * j;
+        let at = 6 + 15 * j as u32;
         let block = block_at(words, at);
-        let verdict = judged(sizes, j, block, at, words.len());
+        let verdict = judged(sizes, j as usize, block, at, words.len());
         if verdict.number != 0 {
             return verdict;
         }
@@ -116,8 +98,7 @@ fn blocks(words: &[u16], sizes: Sizes, count: u16) -> Verdict
     requires { ⌜ count ≡ word (now words) 5 ⌝ }
     ensures { λ r. ⌜ r ≡ seek (section-earns blocks-section (areas-only sizes) (drop 5 (now (words .entry)))) (length (now (words .entry))) 5 ⌝ }
 {
-    let count = count as usize;
-    let verdict = section::count(count <= MOST_BLOCKS, 5, words.len());
+    let verdict = section::count(count as usize <= MOST_BLOCKS, 5, words.len());
     if verdict.number != 0 {
         return verdict;
     }

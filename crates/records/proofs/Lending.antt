@@ -24,7 +24,7 @@ use denote.Slice.{sliceVal, MutSlice, Room, finally}
 use denote.Array.{Array, array-vals}
 use denote.ArrayMemory.{Single}
 use denote.Lend.{Held, lends-slice, slice-back}
-use Rattle.scan.proofs.Lending.{Cell, Elements, apart, whole}
+use Rattle.outputs.proofs.Lending.{Cell, Elements, apart, whole}
 
 module _ (T : RattleType) (vals : T .Denot → List Val) (n b o : ℕ) (κ : Lft) where
   -- the reference to the array, what it owns, and its lender's part

@@ -1,12 +1,12 @@
 // The two calls whose bodies hold what a caller lends: a reader over lent words, and a list of records lent to a scan.
-use bits::Verdict;
 use network::Opened;
 use network::Read;
-use network::Reader;
-use scan::Outputs;
+use outputs::Outputs;
+use reader::Reader;
+use verdict::Verdict;
 ghost use mathlib.Core.Path.{_≡_};
 ghost use Rattle.network.specs.Check.{opened, read};
-ghost use Rattle.scan.specs.Records.{Recorded};
+ghost use Rattle.outputs.specs.Records.{Recorded};
 
 // What a reader says of the words that it was opened on, and of block k.
 pub(crate) struct Asked {
@@ -36,6 +36,6 @@ pub(crate) fn lend(words: &[u16], table: &mut [u16], before: [Outputs; 5]) -> Sc
     ensures { λ r. ⌜ Recorded (now (words .entry)) (now (table .entry)) before (r .verdict) (now (table .exit)) (r .list) ⌝ }
 {
     let mut list = before;
-    let verdict = scan::scan(words, table, &mut list);
+    let verdict = outputs::scan(words, table, &mut list);
     Scanned { verdict, list }
 }

@@ -9,7 +9,7 @@ mod print;
 
 use crate::lent::ask;
 use crate::lent::lend;
-use scan::Outputs;
+use outputs::Outputs;
 
 // CMPR of 40001 with 40003, to coil 1; MBIT, with power from the middle output of block 1; BROT of 40006; SENS, with power from
 // coil 1; COMP and AND of 40005.

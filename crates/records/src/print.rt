@@ -1,11 +1,11 @@
 // What the program prints of a record, of outputs, of a table and of a verdict.
-use bits::Verdict;
-use network::Block;
-use network::Input;
-use network::Node;
 use network::Opened;
 use network::Read;
-use scan::Outputs;
+use outputs::Outputs;
+use record::Block;
+use record::Input;
+use record::Node;
+use verdict::Verdict;
 
 pub(crate) fn text(s: &[u8]) {
     io::write_all(1, s);

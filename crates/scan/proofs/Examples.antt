@@ -2,34 +2,33 @@
 -- on the left a network, a table and outputs, on the right the verdict, the table and the outputs after the scan of its words.
 -- Assumes nothing.
 use mathlib.Core.Path.{_≡_, refl}
-use mathlib.Core.Bool.{Bool, true, false, xor}
+use mathlib.Core.Bool.{xor}
 use mathlib.Core.List.{List, [], _∷_, flatMap}
 use Prim.Native.Nat.{ℕ}
-use Rattle.bits.specs.declared.Verdict.{Verdict}
+use Rattle.verdict.specs.declared.Verdict.{Verdict}
 use Rattle.bits.specs.Bit.{bit, value, matrix}
 use Rattle.matrix.specs.Logic.{combined}
-use Rattle.matrix.specs.Search.{first}
+use Rattle.search.specs.Search.{first}
 use Rattle.matrix.specs.Move.{moved}
-use Rattle.matrix.specs.Pointer.{reset, in-range, advanced}
-use Rattle.network.specs.declared.block.Node.{Node}
-use Rattle.network.specs.declared.block.Input.{Input}
-use Rattle.network.specs.declared.block.Inputs.{Inputs}
-use Rattle.network.specs.declared.block.Coils.{Coils}
-use Rattle.network.specs.declared.block.Block.{Block}
-use Rattle.network.specs.Table.{reference-fault, start-of}
-use Rattle.network.specs.Rules.{rule, allows}
-use Rattle.network.specs.Record.{block-in, spelled}
+use Rattle.pointer.specs.Pointer.{reset, in-range, advanced}
+use Rattle.record.specs.declared.Node.{Node}
+use Rattle.record.specs.declared.Input.{Input}
+use Rattle.record.specs.declared.Inputs.{Inputs}
+use Rattle.record.specs.declared.Coils.{Coils}
+use Rattle.record.specs.declared.Block.{Block}
+use Rattle.table.specs.Table.{reference-fault, start-of, sizes-faults}
+use Rattle.rules.specs.Rules.{rule, allows}
+use Rattle.record.specs.Record.{block-in, spelled}
 use Rattle.network.specs.Network.{Network, words-of}
-use Rattle.network.specs.Fault.{faults}
-use Rattle.section.specs.Walk.{verdict, done, seek}
+use Rattle.rules.specs.Fault.{faults}
+use Rattle.section.specs.Walk.{seek}
+use Rattle.verdict.specs.Verdict.{verdict, done}
 use Rattle.section.specs.Section.{section-earns, earned, meaning, judged-from, whole, records-earn, records-in}
-use Rattle.network.specs.Check.{sizes-faults, areas-section, block-faults, blocks-section, network-in, checked}
-use Rattle.blocks.specs.declared.Outputs.{Outputs}
+use Rattle.network.specs.Check.{areas-section, block-faults, blocks-section, network-in, checked}
 use Rattle.blocks.specs.Work.{block-outputs, block-table}
-use Rattle.scan.specs.Input.{passes}
+use Rattle.inputs.specs.Input.{passes}
 use Rattle.scan.specs.Scan.{step, steps, scan-verdict, scan-table, scan-outputs}
-use Rattle.scan.specs.Records.{records-verdict, records-table, records-outputs}
-use Rattle.scan.specs.Scans.{pointer-of, pointers-after, scans-table, scans-outputs, scans-pointers, scans-verdict, scans-left, scans-packed, scans-marked}
+use Rattle.scan.specs.Scans.{pointer-of, pointers-after, scans-table, scans-outputs, scans-pointers, scans-verdict, scans-left, scans-packed, scans-pointed}
 
 -- a network in a table of a word of coils, a word of discrete inputs and four holding registers
 abbrev network : List Block → Network
@@ -48,7 +47,7 @@ abbrev wired : Input → Input → Input → Inputs
 wired top middle bottom = record { top = top; middle = middle; bottom = bottom }
 
 -- power on top alone; on top and bottom; on all three
-abbrev top-on : Inputs
+abbrev pub top-on : Inputs
 top-on = wired (input 1 0) (input 0 0) (input 0 0)
 
 abbrev top-bottom : Inputs
@@ -67,10 +66,10 @@ block kind n top middle inputs named = record { kind = kind; n = n; top = top; m
 abbrev plain : ℕ → ℕ → ℕ → ℕ → Inputs → Block
 plain kind n top middle inputs = block kind n (register top) (register middle) inputs (coils 0 0 0)
 
-abbrev usual : ℕ → ℕ → Inputs → Network
+abbrev pub usual : ℕ → ℕ → Inputs → Network
 usual kind n inputs = network (plain kind n 1 2 inputs ∷ [])
 
-abbrev registers : ℕ → ℕ → ℕ → ℕ → List ℕ
+abbrev pub registers : ℕ → ℕ → ℕ → ℕ → List ℕ
 registers a b c d = 0 ∷ 0 ∷ a ∷ b ∷ c ∷ d ∷ []
 
 abbrev Outcome : Type 0
@@ -172,7 +171,7 @@ inputs = refl
 abbrev onward : Network → Outcome → Outcome
 onward net before = scan (words-of net) (before .1) (before .2)
 
-abbrev bench : Network
+abbrev pub bench : Network
 bench = usual 5 1 top-on
 
 -- scan after scan: the compare of the bench's example reports 1, 16, 1, 16, each with all outputs on; one whose last bit does
@@ -222,7 +221,7 @@ refused = refl
 -- ---- several scans in one call
 
 -- an AND, which has no pointer, and a SENS of a constant
-abbrev two : Network
+abbrev pub two : Network
 two = network (plain 1 1 1 2 top-on ∷ block 7 1 (constant 2) (register 1) top-on (coils 0 0 0) ∷ [])
 
 abbrev Outcomes : Type 0
@@ -231,7 +230,7 @@ Outcomes = Verdict × List ℕ × List ℕ × List ℕ
 abbrev runs : Network → List ℕ → ℕ → List ℕ → List ℕ → Outcomes
 runs net t times outputs pointers =
     let ws : List ℕ = words-of net in
-    (scans-verdict ws t times outputs pointers, scans-left ws t times outputs pointers, scans-packed ws t times outputs pointers, scans-marked ws t times outputs pointers)
+    (scans-verdict ws t times outputs pointers, scans-left ws t times outputs pointers, scans-packed ws t times outputs pointers, scans-pointed ws t times outputs pointers)
 
 -- the bench's example, four scans: outputs and pointers of each, and the entries after them stay; two scans of two
 -- blocks; no scan; lists that are too short for two scans; a refused network
@@ -251,28 +250,5 @@ pub repeated :
     ∷ (verdict 12 0, registers 32769 0 0 0, 9 ∷ 9 ∷ [], 9 ∷ [])
     ∷ (verdict 5 8, registers 1 2 3 4, 9 ∷ [], 9 ∷ [])
     ∷ [])
-unfolding scan scans-verdict scans-left scans-packed scans-marked scans-table scans-outputs scans-pointers pointers-after pointer-of
+unfolding scan scans-verdict scans-left scans-packed scans-pointed scans-table scans-outputs scans-pointers pointers-after pointer-of
 repeated = refl
-
--- ---- the same with records
-abbrev three : Bool → Bool → Bool → Outputs
-three a b c = record { top = a; middle = b; bottom = c }
-
-abbrev with-records : Network → List ℕ → List Outputs → Verdict × List ℕ × List Outputs
-with-records net t os = let ws : List ℕ = words-of net in (records-verdict ws t os, records-table ws t os, records-outputs ws t os)
-
--- two blocks, and an entry after them that stays; the bench's example, all three outputs on; a list that is too short; a refused network
-pub recorded :
-    _≡_ {A = List (Verdict × List ℕ × List Outputs)}
-    (with-records two (registers 0x4000 0xffff 0 0) (three false false true ∷ three false false true ∷ three false true true ∷ [])
-    ∷ with-records bench (registers 32769 0 0 0) (three false false false ∷ [])
-    ∷ with-records two (registers 0x4000 0xffff 0 0) (three false true true ∷ [])
-    ∷ with-records (usual 1 0 top-on) (registers 1 2 3 4) (three false true true ∷ [])
-    ∷ [])
-    ((done, registers 0x4000 0x4000 0 0, three true false false ∷ three true true false ∷ three false true true ∷ [])
-    ∷ (done, registers 32769 1 0 0, three true true true ∷ [])
-    ∷ (verdict 12 0, registers 0x4000 0xffff 0 0, three false true true ∷ [])
-    ∷ (verdict 5 8, registers 1 2 3 4, three false true true ∷ [])
-    ∷ [])
-unfolding scan
-recorded = refl

@@ -9,26 +9,24 @@ use borrow.Author.Tests.{eqb-true, eqb-false, eq-eqb, ne-eqb, leb-true}
 use denote.Ref.{now}
 use lib.Dec.{eqb, leb}
 use lib.ListN.{length, drop}
-use Rattle.bits.specs.declared.Verdict.{Verdict}
+use Rattle.verdict.specs.declared.Verdict.{Verdict}
 use Rattle.bits.specs.Bit.{bit}
-use Rattle.bits.specs.Promise.{Keeps}
-use Rattle.network.specs.declared.block.Block.{Block}
-use Rattle.network.specs.Table.{total}
+use Rattle.verdict.specs.Promise.{Keeps}
+use Rattle.record.specs.declared.Block.{Block}
+use Rattle.table.specs.Table.{total}
 use Rattle.network.specs.Network.{Network, block-of, block-count}
-use Rattle.section.specs.Walk.{verdict, done, then}
+use Rattle.verdict.specs.Verdict.{verdict, done, then}
 use Rattle.network.specs.Check.{checked, network-in}
 use Rattle.network.specs.Sound.{GoodNetwork}
 use Rattle.network.proofs.Values.{accepted-good}
 use Rattle.blocks.specs.declared.Power.{Power}
-use Rattle.blocks.specs.declared.Outputs.{Outputs}
 use Rattle.blocks.specs.Truths.{Runs}
 use Rattle.blocks.proofs.Written.{same-long, inputs-stay as block-inputs-stay}
-use Rattle.scan.specs.Input.{power-on}
-use Rattle.scan.specs.Scan.{State, step, steps, scanned, packed, unpacked, scan-verdict, scan-table, scan-outputs}
-use Rattle.scan.specs.Records.{Recorded, RefusalKeepsRecords}
-use Rattle.scan.specs.Scans.{scans-table, scans-outputs, scans-pointers, scans-verdict, scans-left, scans-packed, scans-marked}
-use Rattle.scan.specs.Truths.{RefusalKeeps, SameLong, InputsStay}
-use Rattle.scan.proofs.Packing.{all-back}
+use Rattle.inputs.specs.Input.{power-on}
+use Rattle.blocks.specs.Packed.{packed}
+use Rattle.scan.specs.Scan.{State, step, steps, scanned, scan-verdict, scan-table, scan-outputs}
+use Rattle.scan.specs.Scans.{scans-table, scans-outputs, scans-pointers, scans-verdict, scans-left, scans-packed, scans-pointed}
+use Rattle.scan.specs.Truths.{RefusalKeeps, ScanSameLong, ScanKeepsInputs}
 use Rattle.scan.proofs.Scanning.{after, after-next, after-all}
 use Rattle.scan.proofs.scan_packed.Reads as packed-reads
 use Rattle.scan.proofs.repeat.scans.Reads as scans-reads
@@ -127,11 +125,6 @@ refusal-keeps ws t outputs h = (
   ap (λ (a : Bool). cond a (map packed (scanned (network-in ws) t .outs) ++ drop (block-count (network-in ws)) outputs) outputs) (ne-eqb (scan-verdict ws t outputs .number) 0 h),
 )
 
-pub refusal-keeps-records : RefusalKeepsRecords
-refusal-keeps-records ws t os h =
-    let kept = refusal-keeps ws t (map packed os) h in
-    (kept .0, ap (map unpacked) (kept .1) ∙ all-back os)
-
 -- and so whatever the contract allows with a refusal for its answer
 pub packed-keeps-table : Keeps packed-reads.Post (λ κs v. v .number ≡ 0 → ⊥) (λ κs a. now (a .1 .0)) (λ κs s. now (s .1 .0))
 packed-keeps-table κs a v s p h =
@@ -141,12 +134,7 @@ pub packed-keeps-outputs : Keeps packed-reads.Post (λ κs v. v .number ≡ 0 �
 packed-keeps-outputs κs a v s p h =
     p .leaves-other ∙ refusal-keeps _ _ _ (λ e. h (ap (λ (x : Verdict). x .number) (p .answers) ∙ e)) .1
 
-pub scan-keeps : {ws t table : List ℕ} {os list : List Outputs} {v : Verdict} → Recorded ws t os v table list → (v .number ≡ 0 → ⊥) → (table ≡ t) × (list ≡ os)
-scan-keeps p h =
-    let kept = refusal-keeps-records _ _ _ (λ e. h (ap (λ (x : Verdict). x .number) (p .answers) ∙ e)) in
-    (p .leaves-table ∙ kept .0, p .leaves-records ∙ kept .1)
-
-pub same-long-after : SameLong
+pub same-long-after : ScanSameLong
 unfolding scan-table
 same-long-after ws t outputs = go (eqb (scan-verdict ws t outputs .number) 0) refl
   where
@@ -156,7 +144,7 @@ same-long-after ws t outputs = go (eqb (scan-verdict ws t outputs .number) 0) re
         after-scan ws t outputs h .exact ∙ sym (exact-table ws t outputs h)
     go false e = refl
 
-pub inputs-stay : InputsStay
+pub inputs-stay : ScanKeepsInputs
 unfolding scan-table
 inputs-stay ws t outputs p l u = go (eqb (scan-verdict ws t outputs .number) 0) refl
   where
@@ -175,8 +163,8 @@ module _ (ws t : List ℕ) (times : ℕ) (outputs pointers : List ℕ) (h : scan
   none-packed =
       ap (λ (a : Bool). cond a (scans-outputs (network-in ws) t times ++ drop (times * block-count (network-in ws)) outputs) outputs) (ne-eqb (scans-verdict ws t times outputs pointers .number) 0 h)
 
-  none-marked : scans-marked ws t times outputs pointers ≡ pointers
-  unfolding scans-marked
+  none-marked : scans-pointed ws t times outputs pointers ≡ pointers
+  unfolding scans-pointed
   none-marked =
       ap (λ (a : Bool). cond a (scans-pointers (network-in ws) t times ++ drop (times * block-count (network-in ws)) pointers) pointers) (ne-eqb (scans-verdict ws t times outputs pointers .number) 0 h)
 

@@ -1,24 +1,11 @@
--- The laws of the definitions, those that join the code to them, what is true of a scan, and demand 3.
-pub mod Apart
-pub mod Called
-pub mod Chained
-pub mod Checked
-pub mod Climb
-pub mod Compared
-pub mod Demand3
+-- The laws of the definitions, those that join the code to them, and what is true of a scan.
+pub mod Coils
 pub mod Determined
 pub mod Examples
 pub mod Kept
-pub mod Lending
 pub mod Packing
 pub mod Locating
-pub mod Pointed
-pub mod Recording
 pub mod Repeating
 pub mod Scanning
 pub mod Verdicts
-pub mod Visits
 pub mod Walking
-pub mod Wired
-pub mod Witnesses
-pub mod Works

@@ -8,16 +8,12 @@ use borrow.Author.Tests.{eqb-true, eqb-false}
 use lib.Dec.{eqb}
 use lib.ListN.{length, getD, set}
 use lib.Seq.{getD-set-same, getD-set-other}
-use Rattle.network.specs.declared.sizes.Sizes.{Sizes}
-use Rattle.network.specs.declared.block.Block.{Block}
+use Rattle.table.specs.declared.sizes.Sizes.{Sizes}
+use Rattle.record.specs.declared.Block.{Block}
 use Rattle.network.specs.Network.{Network, areas-only, block-of}
 use Rattle.blocks.specs.View.{first-word}
-use Rattle.scan.specs.declared.located.Located.{Located}
+use Rattle.blocks.specs.declared.Located.{Located}
 use Rattle.scan.specs.Inner.{located-at}
-
--- ---- a block that is located
-abbrev made : Block → ℕ → ℕ → Located
-made b top middle = record { block = b; top = top; middle = middle }
 
 -- ---- the first k entries are the records of the first k blocks
 abbrev pub Filled : Network → ℕ → List Located → Type 0
@@ -34,7 +30,7 @@ one-filled net {k} blocks {one} h l e i u d = go (eqb i k) refl
 
 -- a record that was read, and the indexes that were worked out, are the next block's
 pub is-located : (net : Network) (k : ℕ) {z : Sizes} {b : Block} {top middle : ℕ} → z ≡ net .sizes → b ≡ block-of net k
-    → top ≡ first-word (areas-only z) (b .top) → middle ≡ first-word (areas-only z) (b .middle) → made b top middle ≡ located-at net k
+    → top ≡ first-word (areas-only z) (b .top) → middle ≡ first-word (areas-only z) (b .middle) → _≡_ {A = Located} (record { block = b; top = top; middle = middle }) (located-at net k)
 is-located net k p q e f = λ i. record {
   block = q i;
   top = (e ∙ ap₂ (λ (y : Sizes) (c : Block). first-word (areas-only y) (c .top)) p q) i;

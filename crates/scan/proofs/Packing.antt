@@ -1,14 +1,14 @@
 -- Outputs that are packed and unpacked are the same, and so are those of a list. Assumes nothing.
-use mathlib.Core.Path.{_≡_, refl, sym, ap, ap₂, _∙_}
+use mathlib.Core.Path.{_≡_, refl, ap₂}
 use mathlib.Core.Bool.{Bool, true, false}
 use mathlib.Core.List.{List, [], _∷_, map}
-use Prim.Native.Nat.{ℕ, zero, suc}
-use lib.ListN.{getD, drop, List·getD-map}
+use Prim.Native.Nat.{ℕ}
+use lib.ListN.{getD, List·getD-map}
 use Rattle.bits.specs.Bit.{bit}
 use Rattle.blocks.specs.declared.Outputs.{Outputs}
-use Rattle.scan.specs.Input.{no-outputs}
-use Rattle.scan.specs.Scan.{packed, unpacked}
-use Rattle.scan.specs.Records.{UnpackPack}
+use Rattle.blocks.specs.Answer.{no-outputs}
+use Rattle.blocks.specs.Packed.{packed, unpacked}
+use Rattle.scan.specs.Truths.{UnpackPack}
 
 pub unpack-pack : UnpackPack
 unfolding bit
@@ -34,11 +34,3 @@ packed-at outs i = List·getD-map packed outs i no-outputs
 pub all-back : (os : List Outputs) → map unpacked (map packed os) ≡ os
 all-back [] = refl
 all-back (o ∷ os) = ap₂ (λ (x : Outputs) (xs : List Outputs). x ∷ xs) (unpack-pack o) (all-back os)
-
-pub rest-packed : (n : ℕ) (os : List Outputs) → map packed (drop n os) ≡ drop n (map packed os)
-rest-packed zero os = refl
-rest-packed (suc n) [] = refl
-rest-packed (suc n) (o ∷ os) = rest-packed n os
-
-pub rest-back : (n : ℕ) (os : List Outputs) → map unpacked (drop n (map packed os)) ≡ drop n os
-rest-back n os = ap (map unpacked) (sym (rest-packed n os)) ∙ all-back (drop n os)

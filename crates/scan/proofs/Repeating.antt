@@ -5,10 +5,11 @@ use Prim.Native.Nat.{ℕ, zero, suc, _+_, _*_, _≤_, _<_}
 use native.Mathlib.Nat.{suc-mul, mul-le-mul-right}
 use native.Mathlib.Omega.{arith}
 use lib.ListN.{length, length-append, length-map}
-use Rattle.network.specs.Table.{total}
+use Rattle.table.specs.Table.{total}
 use Rattle.network.specs.Network.{Network, block-count}
 use Rattle.network.specs.Sound.{GoodNetwork}
-use Rattle.scan.specs.Scan.{scanned, packed}
+use Rattle.blocks.specs.Packed.{packed}
+use Rattle.scan.specs.Scan.{scanned}
 use Rattle.scan.specs.Scans.{scan-pointers, scans-table, scans-outputs, scans-pointers}
 use Rattle.scan.proofs.Kept.{scanned-exact}
 use Rattle.scan.proofs.Scanning.{all-outs-count, all-marks-count}

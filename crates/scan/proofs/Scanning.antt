@@ -6,10 +6,10 @@ use Prim.Native.Nat.{ℕ, suc, _+_, _≤_, _<_}
 use native.Mathlib.Omega.{arith}
 use lib.ListN.{length, take, length-append}
 use lib.Seq.{take-suc, take-length, length-take-le}
-use Rattle.bits.specs.declared.Verdict.{Verdict}
-use Rattle.network.specs.declared.block.Block.{Block}
+use Rattle.verdict.specs.declared.Verdict.{Verdict}
+use Rattle.record.specs.declared.Block.{Block}
 use Rattle.network.specs.declared.checker.Opened.{Opened}
-use Rattle.network.specs.declared.reader.Read.the-variants.{Record, Refused}
+use Rattle.network.specs.declared.reading.Read.the-variants.{Record, Refused}
 use Rattle.network.specs.Network.{Network, no-block, block-of, block-count}
 use Rattle.network.specs.Check.{opened, checked, network-in, read-at}
 use Rattle.network.proofs.Values.{opened-sizes, opened-count, reads-block}

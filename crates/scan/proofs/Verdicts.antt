@@ -8,16 +8,17 @@ use native.Mathlib.Omega.{arith}
 use borrow.Author.Tests.{eq-eqb, eqb-true, ne-eqb, le-leb, lt-leb}
 use lib.Dec.{eqb, leb}
 use lib.ListN.{length, drop}
-use Rattle.bits.specs.declared.Verdict.{Verdict}
-use Rattle.bits.specs.Promise.{LeavesTwo, LeavesThree}
+use Rattle.verdict.specs.declared.Verdict.{Verdict}
+use Rattle.verdict.specs.Promise.{LeavesTwo, LeavesThree}
 use Rattle.network.specs.declared.checker.Opened.{Opened}
-use Rattle.network.specs.Table.{total}
+use Rattle.table.specs.Table.{total}
 use Rattle.network.specs.Network.{block-count}
-use Rattle.section.specs.Walk.{verdict, done}
+use Rattle.verdict.specs.Verdict.{verdict, done}
 use Rattle.network.specs.Check.{opened, checked, network-in}
 use Rattle.network.proofs.Values.{accepted-good}
-use Rattle.scan.specs.Scan.{scanned, packed, scan-verdict, scan-table, scan-outputs}
-use Rattle.scan.specs.Scans.{scans-table, scans-outputs, scans-pointers, scans-verdict, scans-left, scans-packed, scans-marked}
+use Rattle.blocks.specs.Packed.{packed}
+use Rattle.scan.specs.Scan.{scanned, scan-verdict, scan-table, scan-outputs}
+use Rattle.scan.specs.Scans.{scans-table, scans-outputs, scans-pointers, scans-verdict, scans-left, scans-packed, scans-pointed}
 use Rattle.scan.specs.Inner.{Repeatable, Repeated}
 use Rattle.scan.proofs.Scanning.{sizes-are, count-is}
 
@@ -39,10 +40,14 @@ module _ (ws t : List ℕ) where
     long h = h ∙ ap total (sizes-are ws e)
 
 -- ---- several scans
+and-off : (a : Bool) → (a && false) ≡ false
+and-off true = refl
+and-off false = refl
+
 abbrev pub Repeats : List ℕ → List ℕ → ℕ → List ℕ → List ℕ → Verdict → List ℕ → List ℕ → List ℕ → Type 0
 Repeats ws t times outputs pointers r table packs marks =
     LeavesThree (scans-verdict ws t times outputs pointers) (scans-left ws t times outputs pointers)
-    (scans-packed ws t times outputs pointers) (scans-marked ws t times outputs pointers) r table packs marks
+    (scans-packed ws t times outputs pointers) (scans-pointed ws t times outputs pointers) r table packs marks
 
 module _ (ws t : List ℕ) (times : ℕ) (outputs pointers : List ℕ) where
   repeat-tests : (fine long enough room : Bool) → eqb (checked ws .number) 0 ≡ fine → eqb (length t) (total (network-in ws .sizes)) ≡ long
@@ -53,7 +58,7 @@ module _ (ws t : List ℕ) (times : ℕ) (outputs pointers : List ℕ) where
 
   -- a refusal
   repeat-refused : (v : Verdict) → scans-verdict ws t times outputs pointers ≡ v → (v .number ≡ 0 → ⊥) → Repeats ws t times outputs pointers v t outputs pointers
-  unfolding scans-left scans-packed scans-marked
+  unfolding scans-left scans-packed scans-pointed
   repeat-refused v e h =
       let no = ne-eqb (scans-verdict ws t times outputs pointers .number) 0 (λ q. h (sym (ap (λ (x : Verdict). x .number) e) ∙ q)) in
       record {
@@ -78,20 +83,21 @@ module _ (ws t : List ℕ) (times : ℕ) (outputs pointers : List ℕ) where
     entries : times * o .count ≡ times * block-count (network-in ws)
     entries = ap (λ (n : ℕ). times * n) (count-is ws e)
 
-    pub repeat-outputs : o .verdict .number ≡ 0 → length t ≡ total (o .sizes) → length outputs < times * o .count → Repeats ws t times outputs pointers (verdict 12 0) t outputs pointers
-    repeat-outputs h l s =
+    pub repeat-outputs : o .verdict .number ≡ 0 → length outputs < times * o .count → Repeats ws t times outputs pointers (verdict 12 0) t outputs pointers
+    repeat-outputs h s =
         repeat-refused (verdict 12 0)
-        (repeat-tests true true false _ (eq-eqb (checked ws .number) 0 (fine ws t e h)) (eq-eqb (length t) (total (network-in ws .sizes)) (long ws t e l))
-        (lt-leb (times * block-count (network-in ws)) (length outputs) (subst (λ (n : ℕ). length outputs < n) entries s)) refl)
+        (repeat-tests true _ false _ (eq-eqb (checked ws .number) 0 (fine ws t e h)) refl
+        (lt-leb (times * block-count (network-in ws)) (length outputs) (subst (λ (n : ℕ). length outputs < n) entries s)) refl
+        ∙ ap (λ (a : Bool). cond a done (verdict 12 0)) (and-off (eqb (length t) (total (network-in ws .sizes)))))
         (λ q. omega arith)
 
-    pub repeat-pointers : o .verdict .number ≡ 0 → length t ≡ total (o .sizes) → times * o .count ≤ length outputs → length pointers < times * o .count
-        → Repeats ws t times outputs pointers (verdict 12 0) t outputs pointers
-    repeat-pointers h l u s =
+    pub repeat-pointers : o .verdict .number ≡ 0 → length pointers < times * o .count → Repeats ws t times outputs pointers (verdict 12 0) t outputs pointers
+    repeat-pointers h s =
         repeat-refused (verdict 12 0)
-        (repeat-tests true true true false (eq-eqb (checked ws .number) 0 (fine ws t e h)) (eq-eqb (length t) (total (network-in ws .sizes)) (long ws t e l))
-        (le-leb (times * block-count (network-in ws)) (length outputs) (subst (λ (n : ℕ). n ≤ length outputs) entries u))
-        (lt-leb (times * block-count (network-in ws)) (length pointers) (subst (λ (n : ℕ). length pointers < n) entries s)))
+        (repeat-tests true _ _ false (eq-eqb (checked ws .number) 0 (fine ws t e h)) refl refl
+        (lt-leb (times * block-count (network-in ws)) (length pointers) (subst (λ (n : ℕ). length pointers < n) entries s))
+        ∙ ap (λ (a : Bool). cond (eqb (length t) (total (network-in ws .sizes)) && a) done (verdict 12 0)) (and-off (leb (times * block-count (network-in ws)) (length outputs)))
+        ∙ ap (λ (a : Bool). cond a done (verdict 12 0)) (and-off (eqb (length t) (total (network-in ws .sizes)))))
         (λ q. omega arith)
 
     module _ (h : o .verdict .number ≡ 0) (l : length t ≡ total (o .sizes)) (u : times * o .count ≤ length outputs) (v : times * o .count ≤ length pointers) where
@@ -110,7 +116,7 @@ module _ (ws t : List ℕ) (times : ℕ) (outputs pointers : List ℕ) where
           (le-leb (times * block-count (network-in ws)) (length outputs) (repeatable .outputs-room)) (le-leb (times * block-count (network-in ws)) (length pointers) (repeatable .pointers-room))
 
       pub repeats : {table packs marks : List ℕ} → Repeated (network-in ws) times t outputs pointers table packs marks → Repeats ws t times outputs pointers done table packs marks
-      unfolding scans-left scans-packed scans-marked
+      unfolding scans-left scans-packed scans-pointed
       repeats s = record {
         answers = sym taken;
         leaves-one = s .table-after ∙ sym (ap (λ (x : Verdict). cond (eqb (x .number) 0) (scans-table (network-in ws) t times) t) taken);

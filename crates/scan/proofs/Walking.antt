@@ -8,18 +8,19 @@ use native.Mathlib.Numerals.{add-one}
 use native.Mathlib.Omega.{arith}
 use lib.ListN.{length, take, drop, set, length-append, length-drop, length-map}
 use lib.Seq.{take-append-seam, drop-append-seam, set-append-seam}
-use Rattle.network.specs.declared.sizes.Sizes.{Sizes}
-use Rattle.network.specs.declared.block.Block.{Block}
-use Rattle.network.specs.Table.{total}
+use Rattle.table.specs.declared.sizes.Sizes.{Sizes}
+use Rattle.record.specs.declared.Block.{Block}
+use Rattle.table.specs.Table.{total}
 use Rattle.network.specs.Network.{Network, areas-only, block-of, block-count}
 use Rattle.network.specs.Sound.{GoodNetwork}
 use Rattle.blocks.specs.declared.Power.{Power}
 use Rattle.blocks.specs.declared.Outputs.{Outputs}
 use Rattle.blocks.specs.Work.{block-outputs, block-table}
 use Rattle.blocks.proofs.Areas.{outputs-by-areas, table-by-areas}
-use Rattle.scan.specs.declared.located.Located.{Located}
-use Rattle.scan.specs.Input.{passes, power-on}
-use Rattle.scan.specs.Scan.{State, step, steps, scanned, packed, unpacked}
+use Rattle.blocks.specs.declared.Located.{Located}
+use Rattle.inputs.specs.Input.{passes, power-on}
+use Rattle.blocks.specs.Packed.{packed, unpacked}
+use Rattle.scan.specs.Scan.{State, step, steps, scanned}
 use Rattle.scan.specs.Scans.{pointer-of, pointers-after, scans-table, scans-outputs, scans-pointers}
 use Rattle.scan.specs.Inner.{Next, Ran, power-of, located-at, Repeated}
 use Rattle.scan.proofs.Kept.{exact-after}
@@ -57,7 +58,7 @@ by-areas net {one} {first} {k} {t} {packs} r =
     record {
       table-after = r .table-after ∙ table-by-areas net (one .block) t on;
       entry-after = r .entry-after ∙ ap (λ (out : Outputs). set packs (first + k) (packed out)) (outputs-by-areas net (one .block) t on);
-      mark-after = r .mark-after;
+      pointer-after = r .pointer-after;
     }
 
 -- ---- what j scans and k blocks of the next leave in front of the lists
@@ -138,11 +139,9 @@ module _ {net : Network} {t outputs pointers : List ℕ} {j k : ℕ} {table pack
     next-here : Next (areas-only (net .sizes)) (located-at net k) table packs marks (j * block-count net) k
     next-here = record {
       runs = record { good = h .good .blocks k l; exact = table-exact };
-      lies = record { top-word = refl; middle-word = refl };
-      few-coils = h .good .areas .coils;
-      few-discretes = h .good .areas .discretes;
+      lies = refl;
       entry = omega (arith, l, u, packs-long (omega (arith, l, u)));
-      mark-entry = omega (arith, l, v, marks-long (omega (arith, l, v)));
+      pointer-entry = omega (arith, l, v, marks-long (omega (arith, l, v)));
     }
 
     -- its inputs pass the power of the definition
@@ -189,7 +188,7 @@ module _ {net : Network} {t outputs pointers : List ℕ} {j k : ℕ} {table pack
       marks-more : marks-then ≡ marks-front net t j (suc k) ++ drop (j * block-count net + suc k) pointers
       unfolding block mark
       marks-more =
-          r .mark-after
+          r .pointer-after
           ∙ ap₂ (λ (x p : List ℕ). set p (j * block-count net + k) (pointer-of net block x)) table-more (h .marks-so-far)
           ∙ stored (marks-front net t j k) pointers (j * block-count net + k) (marks-front-long net t j k (h .count)) mark (omega (arith, l, v))
           ∙ ap₂ (λ (p : List ℕ) (n : ℕ). p ++ drop n pointers)

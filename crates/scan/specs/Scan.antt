@@ -1,20 +1,20 @@
 -- One scan (document 01, "One scan"): blocks run in order; a block takes its three inputs from the table as earlier blocks left
 -- it and from earlier outputs. Assumes nothing.
-use Prim.Native.Nat.{ℕ, _+_, _*_}
+use Prim.Native.Nat.{ℕ}
 use mathlib.Core.Bool.{cond, _&&_}
 use mathlib.Core.List.{List, [], _∷_, _++_, map}
 use lib.Dec.{eqb, leb}
 use lib.ListN.{length, drop}
-use Rattle.bits.specs.declared.Verdict.{Verdict}
-use Rattle.bits.specs.Bit.{of}
-use Rattle.network.specs.declared.block.Block.{Block}
-use Rattle.network.specs.Table.{total}
+use Rattle.verdict.specs.declared.Verdict.{Verdict}
+use Rattle.record.specs.declared.Block.{Block}
+use Rattle.table.specs.Table.{total}
 use Rattle.network.specs.Network.{Network, block-count}
-use Rattle.section.specs.Walk.{verdict, done, then}
+use Rattle.verdict.specs.Verdict.{verdict, done, then}
 use Rattle.network.specs.Check.{checked, network-in}
 use Rattle.blocks.specs.declared.Outputs.{Outputs}
 use Rattle.blocks.specs.Work.{block-outputs, block-table}
-use Rattle.scan.specs.Input.{power-on}
+use Rattle.blocks.specs.Packed.{packed}
+use Rattle.inputs.specs.Input.{power-on}
 
 -- the table, and the outputs of the blocks that have run
 pub record State : Type 0 where
@@ -40,14 +40,6 @@ steps net (b ∷ bs) s = steps net bs (step net b s)
 -- the state after a scan of a network
 abbrev pub scanned : Network → List ℕ → State
 scanned net t = steps net (net .blocks) (fresh t)
-
--- three outputs as one number: top is worth 1, middle 2, bottom 4
-abbrev pub packed : Outputs → ℕ
-packed out = cond (out .top) 1 0 + 2 * cond (out .middle) 1 0 + 4 * cond (out .bottom) 1 0
-
--- and a number as three outputs
-abbrev pub unpacked : ℕ → Outputs
-unpacked w = record { top = of w 16; middle = of w 15; bottom = of w 14 }
 
 -- the network's refusals, then 12 for a table that is not exactly the sum of the areas, or outputs shorter than the count
 unfoldable pub scan-verdict : List ℕ → List ℕ → List ℕ → Verdict

@@ -1,29 +1,25 @@
 -- Several scans, one after the other, each of the table that the one before left; and the pointer that a block shows when it is done
 -- (document 01, "The bench program"). Assumes nothing.
 use Prim.Native.Nat.{ℕ, zero, suc, _*_}
-use mathlib.Core.Bool.{Bool, cond, _&&_}
+use mathlib.Core.Bool.{cond, _&&_}
 use mathlib.Core.List.{List, [], _∷_, _++_, map}
 use lib.Dec.{eqb, leb}
 use lib.ListN.{length, drop}
-use Rattle.bits.specs.declared.Verdict.{Verdict}
-use Rattle.network.specs.declared.block.Block.{Block}
-use Rattle.network.specs.Table.{total}
+use Rattle.verdict.specs.declared.Verdict.{Verdict}
+use Rattle.record.specs.declared.Block.{Block}
+use Rattle.table.specs.Table.{total}
 use Rattle.network.specs.Network.{Network, block-count}
-use Rattle.section.specs.Walk.{verdict, done, then}
+use Rattle.verdict.specs.Verdict.{verdict, done, then}
 use Rattle.network.specs.Check.{checked, network-in}
-use Rattle.blocks.specs.Kind.{kind-of}
-use Rattle.blocks.specs.View.{pointer-in}
-use Rattle.blocks.specs.Work.{pointer-node}
-use Rattle.scan.specs.Scan.{State, fresh, step, scanned, packed}
-
--- CMPR, MBIT and SENS have a pointer
-abbrev pub has-pointer : ℕ → Bool
-has-pointer kind = leb 5 kind && leb kind 7
+use Rattle.blocks.specs.View.{located}
+use Rattle.kinds.specs.Call.{pointer-shown}
+use Rattle.blocks.specs.Packed.{packed}
+use Rattle.scan.specs.Scan.{State, fresh, step, scanned}
 
 -- the pointer of a block in a table: a constant itself, or the register's content; 0 for a kind without one
 unfoldable pub pointer-of : Network → Block → List ℕ → ℕ
-unfolding kind-of
-pointer-of net b t = cond (has-pointer (b .kind)) (pointer-in net (pointer-node (kind-of (b .kind)) b) t) 0
+unfolding pointer-shown
+pointer-of net b t = pointer-shown (located net b) t
 
 -- of blocks in order, each when it is done
 unfoldable pub pointers-after : Network → List Block → State → List ℕ
@@ -63,7 +59,7 @@ unfolding scans-verdict
 scans-packed ws t times outputs pointers =
     cond (eqb (scans-verdict ws t times outputs pointers .number) 0) (scans-outputs (network-in ws) t times ++ drop (times * block-count (network-in ws)) outputs) outputs
 
-unfoldable pub scans-marked : List ℕ → List ℕ → ℕ → List ℕ → List ℕ → List ℕ
+unfoldable pub scans-pointed : List ℕ → List ℕ → ℕ → List ℕ → List ℕ → List ℕ
 unfolding scans-verdict
-scans-marked ws t times outputs pointers =
+scans-pointed ws t times outputs pointers =
     cond (eqb (scans-verdict ws t times outputs pointers .number) 0) (scans-pointers (network-in ws) t times ++ drop (times * block-count (network-in ws)) pointers) pointers

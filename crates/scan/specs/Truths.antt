@@ -5,7 +5,9 @@ use mathlib.Core.List.{List}
 use lib.ListN.{length}
 use Rattle.bits.specs.Bit.{bit}
 use Rattle.network.specs.Check.{network-in}
+use Rattle.blocks.specs.declared.Outputs.{Outputs}
 use Rattle.scan.specs.Scan.{scan-verdict, scan-table, scan-outputs}
+use Rattle.blocks.specs.Packed.{packed, unpacked}
 
 -- a refusal changes neither the table nor the outputs
 abbrev pub RefusalKeeps : Type 0
@@ -14,12 +16,16 @@ RefusalKeeps =
     (scan-table ws t outputs ≡ t) × (scan-outputs ws t outputs ≡ outputs)
 
 -- the table stays as long as it was
-abbrev pub SameLong : Type 0
-SameLong = (ws t outputs : List ℕ) → length (scan-table ws t outputs) ≡ length t
+abbrev pub ScanSameLong : Type 0
+ScanSameLong = (ws t outputs : List ℕ) → length (scan-table ws t outputs) ≡ length t
 
 -- discrete inputs and input registers never change: they stand after the coils and before the holding registers
-abbrev pub InputsStay : Type 0
-InputsStay =
+abbrev pub ScanKeepsInputs : Type 0
+ScanKeepsInputs =
     (ws t outputs : List ℕ) (p : ℕ) →
     let z = network-in ws .sizes in 16 * z .coils < p → p ≤ 16 * (z .coils + z .discretes + z .inputs) →
     bit (scan-table ws t outputs) p ≡ bit t p
+
+-- outputs that are packed and unpacked are the same
+abbrev pub UnpackPack : Type 0
+UnpackPack = (o : Outputs) → unpacked (packed o) ≡ o

@@ -2,43 +2,24 @@
 // earlier outputs.
 //
 // A scan takes any words, any table and any outputs. It does its work, or it refuses with document 01's number and place and
-// changes nothing. The functions of the kinds are private: they work on the records of a network that was checked and read
-// before, so that no record is judged or read again at every scan.
+// changes nothing. The records of a network are checked, read and located once for all scans of a call, so that none is judged or read again
+// at every scan.
 mod block;
 mod coil;
-mod compare;
-mod input;
 mod located;
-mod pointer;
-mod records;
 mod repeat;
-mod single;
-mod whole;
 
-use crate::block::pointer_of;
 use crate::block::run;
-use crate::input::power_on;
-use crate::located::Located;
-use crate::repeat::scans_opened;
-use bits::Verdict;
-pub use blocks::Outputs;
-use network::Opened;
-use network::Sizes;
-pub use records::scan;
+use blocks::Located;
+use blocks::Outputs;
+use network::MOST_BLOCKS;
 pub use repeat::scans;
-ghost use mathlib.Core.Path.{_≡_};
-ghost use Rattle.bits.specs.Promise.{LeavesTwo};
+use table::Sizes;
+use verdict::Verdict;
+ghost use Rattle.verdict.specs.Promise.{LeavesTwo};
 ghost use Rattle.network.specs.Network.{areas-only};
-ghost use Rattle.network.specs.Check.{opened};
-ghost use Rattle.scan.specs.Scan.{packed, scan-verdict, scan-table, scan-outputs};
+ghost use Rattle.scan.specs.Scan.{scan-verdict, scan-table, scan-outputs};
 ghost use Rattle.scan.specs.Inner.{Next, Ran};
-
-// Three outputs as one number: top is worth 1, middle 2, bottom 4.
-fn packed(out: Outputs) -> u16
-    ensures { λ r. ⌜ r ≡ packed out ⌝ }
-{
-    out.top as u16 + 2 * out.middle as u16 + 4 * out.bottom as u16
-}
 
 // One block: the power on its inputs, with the outputs of the scan's k earlier blocks, which stand from entry `first` on; its work; its
 // outputs and its pointer into the entry after theirs.
@@ -58,23 +39,9 @@ fn run_one(
         (now (table .exit)) (now (outputs .exit)) (now (pointers .exit)) ⌝ }
 {
     let entry = first + k;
-    let on = power_on(table, &outputs[first..entry], sizes, one.block.inputs);
-    outputs[entry] = packed(run(table, sizes, one, on));
-    pointers[entry] = pointer_of(table, one);
-}
-
-// One scan of an opened network, or its refusal: one of several, whose pointers nobody reads.
-fn scan_opened(words: &[u16], o: Opened, table: &mut [u16], outputs: &mut [u16]) -> Verdict
-    requires { ⌜ o ≡ opened (now words) ⌝ }
-    ensures { λ r. ⌜
-        LeavesTwo
-        (scan-verdict (now (words .entry)) (now (table .entry)) (now (outputs .entry)))
-        (scan-table (now (words .entry)) (now (table .entry)) (now (outputs .entry)))
-        (scan-outputs (now (words .entry)) (now (table .entry)) (now (outputs .entry)))
-        r (now (table .exit)) (now (outputs .exit)) ⌝ }
-{
-    let mut pointers = [0u16; 128];
-    scans_opened(words, o, table, 1, outputs, &mut pointers)
+    let on = inputs::power_on(table, &outputs[first..entry], sizes, one.block.inputs);
+    outputs[entry] = blocks::packed(run(table, sizes, one, on));
+    pointers[entry] = kinds::pointer_of(table, one);
 }
 
 // One scan of the network that the words spell, on the table of its areas. Each block's outputs come back as one number, top
@@ -87,6 +54,6 @@ pub fn scan_packed(words: &[u16], table: &mut [u16], outputs: &mut [u16]) -> Ver
         (scan-outputs (now (words .entry)) (now (table .entry)) (now (outputs .entry)))
         r (now (table .exit)) (now (outputs .exit)) ⌝ }
 {
-    let o = network::opening(words);
-    scan_opened(words, o, table, outputs)
+    let mut pointers = [0u16; MOST_BLOCKS];
+    scans(words, table, 1, outputs, &mut pointers)
 }

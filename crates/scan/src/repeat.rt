@@ -1,17 +1,16 @@
 // Several scans, one after the other.
 use crate::located::blocks_of;
 use crate::run_one;
-use bits::Verdict;
 use network::Opened;
-ghost use mathlib.Core.Path.{_≡_};
-ghost use Rattle.bits.specs.Promise.{LeavesThree};
-ghost use Rattle.network.specs.Check.{opened, network-in};
-ghost use Rattle.scan.specs.Scans.{scans-verdict, scans-left, scans-packed, scans-marked};
+use verdict::Verdict;
+ghost use Rattle.verdict.specs.Promise.{LeavesThree};
+ghost use Rattle.network.specs.Check.{network-in};
+ghost use Rattle.scan.specs.Scans.{scans-verdict, scans-left, scans-packed, scans-pointed};
 ghost use Rattle.scan.specs.Inner.{Repeatable, Repeated};
 
 // So many scans of an opened network, one after the other: every block of each in order. Their outputs and their pointers go to the
 // front of the lists.
-pub(crate) fn run_times(
+fn run_times(
     words: &[u16],
     o: Opened,
     table: &mut [u16],
@@ -41,49 +40,6 @@ pub(crate) fn run_times(
     }
 }
 
-// Several scans of an opened network, or their refusal.
-pub(crate) fn scans_opened(
-    words: &[u16],
-    o: Opened,
-    table: &mut [u16],
-    times: u16,
-    outputs: &mut [u16],
-    pointers: &mut [u16],
-) -> Verdict
-    requires { ⌜ o ≡ opened (now words) ⌝ }
-    ensures { λ r. ⌜
-        LeavesThree
-        (scans-verdict (now (words .entry)) (now (table .entry)) times (now (outputs .entry)) (now (pointers .entry)))
-        (scans-left (now (words .entry)) (now (table .entry)) times (now (outputs .entry)) (now (pointers .entry)))
-        (scans-packed (now (words .entry)) (now (table .entry)) times (now (outputs .entry)) (now (pointers .entry)))
-        (scans-marked (now (words .entry)) (now (table .entry)) times (now (outputs .entry)) (now (pointers .entry)))
-        r (now (table .exit)) (now (outputs .exit)) (now (pointers .exit)) ⌝ }
-{
-    let verdict = o.verdict;
-    if verdict.number != 0 {
-        return verdict;
-    }
-    let short = Verdict {
-        number: 12,
-        place: 0,
-    };
-    if table.len() != network::total(o.sizes) as usize {
-        return short;
-    }
-    let entries = times as usize * o.count as usize;
-    if outputs.len() < entries {
-        return short;
-    }
-    if pointers.len() < entries {
-        return short;
-    }
-    run_times(words, o, table, times, outputs, pointers);
-    Verdict {
-        number: 0,
-        place: 0,
-    }
-}
-
 // Several scans of the network that the words spell, one after the other on its table, which is checked once for all of them. Of
 // each scan in turn, every block's outputs come back as `scan_packed` gives them, and its pointer when it is done (0 for a kind without
 // one); entries after them stay.
@@ -99,9 +55,31 @@ pub fn scans(
         (scans-verdict (now (words .entry)) (now (table .entry)) times (now (outputs .entry)) (now (pointers .entry)))
         (scans-left (now (words .entry)) (now (table .entry)) times (now (outputs .entry)) (now (pointers .entry)))
         (scans-packed (now (words .entry)) (now (table .entry)) times (now (outputs .entry)) (now (pointers .entry)))
-        (scans-marked (now (words .entry)) (now (table .entry)) times (now (outputs .entry)) (now (pointers .entry)))
+        (scans-pointed (now (words .entry)) (now (table .entry)) times (now (outputs .entry)) (now (pointers .entry)))
         r (now (table .exit)) (now (outputs .exit)) (now (pointers .exit)) ⌝ }
 {
     let o = network::opening(words);
-    scans_opened(words, o, table, times, outputs, pointers)
+    let verdict = o.verdict;
+    if verdict.number != 0 {
+        return verdict;
+    }
+    let short = Verdict {
+        number: 12,
+        place: 0,
+    };
+    if table.len() != table::total(o.sizes) as usize {
+        return short;
+    }
+    let entries = times as usize * o.count as usize;
+    if outputs.len() < entries {
+        return short;
+    }
+    if pointers.len() < entries {
+        return short;
+    }
+    run_times(words, o, table, times, outputs, pointers);
+    Verdict {
+        number: 0,
+        place: 0,
+    }
 }

@@ -8,8 +8,9 @@ use native.Mathlib.Numerals.{add-one}
 use native.Mathlib.Omega.{arith}
 use lib.ListN.{length, getD, drop, length-append}
 use lib.Seq.{drop-drop}
-use Rattle.bits.specs.declared.Verdict.{Verdict}
-use Rattle.section.specs.Walk.{done, then, seek}
+use Rattle.verdict.specs.declared.Verdict.{Verdict}
+use Rattle.section.specs.Walk.{seek}
+use Rattle.verdict.specs.Verdict.{done, then}
 use Rattle.section.specs.Section.{records-earn, records-in}
 use Rattle.section.specs.Truths.{Clean}
 use Rattle.section.proofs.Walk.{seek-none, turn-refused, seek-append, then-next}

@@ -11,8 +11,9 @@ use borrow.Author.Tests.{lt-ltb, le-ltb}
 use lib.Dec.{ltb}
 use lib.ListN.{length, drop, length-append}
 use lib.Seq.{drop-drop}
-use Rattle.bits.specs.declared.Verdict.{Verdict}
-use Rattle.section.specs.Walk.{first-of, verdict, done, then, seek, left-over}
+use Rattle.verdict.specs.declared.Verdict.{Verdict}
+use Rattle.section.specs.Walk.{first-of, seek, left-over}
+use Rattle.verdict.specs.Verdict.{verdict, done, then}
 use Rattle.section.specs.Section.{Section, section-earns, section-spells, section-rest, earned, meaning, end, judged-from, front, whole}
 use Rattle.section.specs.Truths.{Clean, Good, AcceptsSections, FirstDecides, CountsThrough, LiftedAsAlone}
 use Rattle.section.proofs.Walk.{then-first, then-next, then-zero, then-assoc, le-of-not-lt, seek-append, done-clean, clean-done}

@@ -12,8 +12,9 @@ use borrow.Author.Tests.{lt-ltb, le-ltb, eq-eqb, ne-eqb}
 use lib.Dec.{eqb}
 use lib.ListN.{length, getD, drop, drop-of-length-le}
 use lib.Seq.{drop-cons}
-use Rattle.bits.specs.declared.Verdict.{Verdict}
-use Rattle.section.specs.Walk.{verdict, done, then, seek}
+use Rattle.verdict.specs.declared.Verdict.{Verdict}
+use Rattle.section.specs.Walk.{seek}
+use Rattle.verdict.specs.Verdict.{verdict, done, then}
 use Rattle.section.specs.Truths.{Clean}
 
 -- ---- one verdict after another

@@ -7,7 +7,8 @@ use native.Mathlib.Nat.{add-zero, le-antisymm}
 use native.Mathlib.Omega.{arith}
 use lib.ListN.{drop, replicate}
 use lib.Seq.{getD-drop, drop-drop}
-use Rattle.section.specs.Walk.{word, verdict, done, seek}
+use Rattle.section.specs.Walk.{word, seek}
+use Rattle.verdict.specs.Verdict.{verdict, done}
 use Rattle.section.proofs.Walk.{le-of-not-lt, seek-none, seek-next, seek-missing}
 
 module _ (ws : List ℕ) (at : ℕ) where

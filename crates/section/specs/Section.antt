@@ -6,8 +6,9 @@ use mathlib.Core.Bool.{Bool, cond}
 use mathlib.Core.List.{List, [], _∷_, _++_}
 use mathlib.Core.Path.{_≡_}
 use lib.ListN.{length, drop}
-use Rattle.bits.specs.declared.Verdict.{Verdict}
-use Rattle.section.specs.Walk.{first-of, then, seek, left-over}
+use Rattle.verdict.specs.declared.Verdict.{Verdict}
+use Rattle.section.specs.Walk.{first-of, seek, left-over}
+use Rattle.verdict.specs.Verdict.{then}
 
 -- a section, where what is spelled is an A; its rules take the count and the words after it
 pub record Section (A : Type 0) : Type 0 where

@@ -5,7 +5,8 @@ use mathlib.Core.Bool.{Bool, true, false}
 use mathlib.Core.List.{List, [], _∷_, _++_, map}
 use mathlib.Core.Logic.{_↔_}
 use lib.ListN.{length, drop}
-use Rattle.section.specs.Walk.{first-of, then}
+use Rattle.section.specs.Walk.{first-of}
+use Rattle.verdict.specs.Verdict.{then}
 use Rattle.section.specs.Section.{Section, section-spells, section-rest, earned, meaning, end, judged-from, front, whole, Part, lifted}
 
 -- no word earns a refusal

@@ -4,7 +4,8 @@ use mathlib.Core.Bool.{Bool, cond, _||_}
 use mathlib.Core.List.{List, [], _∷_}
 use lib.Dec.{ltb, eqb}
 use lib.ListN.{getD}
-use Rattle.bits.specs.declared.Verdict.{Verdict}
+use Rattle.verdict.specs.declared.Verdict.{Verdict}
+use Rattle.verdict.specs.Verdict.{verdict, done}
 
 -- the word at an index, counted from 0; a missing word reads as 0
 abbrev pub word : List ℕ → ℕ → ℕ
@@ -13,16 +14,6 @@ word ws i = getD ws i 0
 -- the first of the words
 abbrev pub first-of : List ℕ → ℕ
 first-of ws = word ws 0
-
-abbrev pub verdict : ℕ → ℕ → Verdict
-verdict number place = record { number = number; place = place }
-
-abbrev pub done : Verdict
-done = verdict 0 0
-
--- one verdict after another: the first that refuses
-abbrev pub then : Verdict → Verdict → Verdict
-then v w = cond (eqb (v .number) 0) w v
 
 -- The words from index i on, of so many, where a list has what each earns: the number of a refusal, or 0. The verdict is 1 at the
 -- first word that is missing, and the number at the first word that earns one.

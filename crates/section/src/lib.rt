@@ -1,10 +1,15 @@
 // Words in sections: a network and a file are sections one after the other, each after its count, whose words are checked from
-// the first on. What a section is, and what is true of any sections in turn, stands in `specs/` and `proofs/`.
-use bits::Verdict;
+// the first on. What a section is, and what is true of any sections in turn, stands in `specs/` and `proofs/`. And how a number is
+// tested by a limit.
+mod limit;
+
+use verdict::Verdict;
 ghost use mathlib.Core.Path.{_≡_};
 ghost use mathlib.Core.Bool.{cond};
 ghost use mathlib.Core.List.{[], _∷_};
 ghost use Rattle.section.specs.Walk.{word, seek};
+pub use limit::counted;
+pub use limit::up_to;
 
 // The word at an index, or 0 where there is none.
 pub fn word(words: &[u16], i: usize) -> u16

@@ -1,56 +1,46 @@
-// The pointer steps: reset, take in range, advance, each with the size that comes back.
+// The pointer steps, each with the size that comes back.
 use crate::print;
-use crate::walk::walk;
-use matrix::Pointer;
+use pointer::Pointer;
 
-fn pair(name: &[u8], p: Pointer) {
-    print::text(name);
-    print::number(p.at);
-    print::byte(b'/');
-    print::number(p.size);
+fn pair(p: Pointer) {
+    print::word(p.at);
+    print::word(p.size);
 }
 
 fn resets(p: Pointer) {
-    pair(b": reset to 0 ", p.reset(0));
-    pair(b", to 1 ", p.reset(1));
-    pair(b", to 2 ", p.reset(2));
+    pair(p.reset(0));
+    pair(p.reset(1));
+    pair(p.reset(2));
 }
 
-// A pointer and its size, and what each step makes of them. The row: the pointer, its size.
-pub(crate) fn steps(name: &[u8], row: [u16; 40]) {
-    let p = Pointer {
-        at: row[0],
-        size: row[1],
-    };
-    print::text(name);
-    pair(b" ", p);
+// A pointer and its size, and what each step makes of them: reset to 0, to 1, to 2; take in range; advance.
+fn steps(at: u16, size: u16) {
+    let p = Pointer { at, size };
+    print::text(b"\npointer");
+    pair(p);
+    print::text(b":");
     resets(p);
-    pair(b", in range ", p.in_range());
-    pair(b", advance ", p.advance());
-    print::byte(b'\n');
+    pair(p.in_range());
+    pair(p.advance());
 }
 
 pub(crate) fn all() {
-    walk(
-        b"
-# Sizes of 16n for n 1, 2 and 255.
-pointer: p 0 16
-pointer: p 1 16
-pointer: p 15 16
-pointer: p 16 16
-pointer: p 17 16
-pointer: p 65535 16
-pointer: p 16 32
-pointer: p 32 32
-pointer: p 4079 4080
-pointer: p 4080 4080
-pointer: p 4081 4080
-# Sizes that are none.
-pointer: p 5 0
-pointer: p 5 15
-pointer: p 20 17
-pointer: p 4096 4096
-pointer: p 65535 65520
-",
-    );
+    // Sizes of 16n for n 1, 2 and 255.
+    steps(0, 16);
+    steps(1, 16);
+    steps(15, 16);
+    steps(16, 16);
+    steps(17, 16);
+    steps(65535, 16);
+    steps(16, 32);
+    steps(32, 32);
+    steps(4079, 4080);
+    steps(4080, 4080);
+    steps(4081, 4080);
+    // Sizes that are none.
+    steps(5, 0);
+    steps(5, 15);
+    steps(20, 17);
+    steps(4096, 4096);
+    steps(65535, 65520);
 }

@@ -1,32 +1,112 @@
 // The record writer and the reader.
 use crate::print;
-use crate::walk::walk;
-use crate::words::AREAS;
-use crate::words::add;
-use crate::words::at_most;
-use crate::words::block_of;
-use crate::words::no_blocks;
-use network::Block;
+use crate::words::front;
+use crate::words::front_mut;
 use network::Read;
-use network::Sizes;
-ghost use mathlib.Core.Path.{_≡_};
-ghost use Prim.Native.Nat.{_≤_};
-ghost use Rattle.network.specs.Record.{spelled};
+use record::Block;
+use record::Coils;
+use record::Input;
+use record::Inputs;
+use record::Node;
+use table::Sizes;
 
-// What the writer answers, and the lent words after it.
-fn written(name: &[u8], sizes: Sizes, k: usize, record: &[u16], buffer: &mut [u16]) {
-    let verdict = network::write_record(sizes, k, block_of(record), buffer);
-    print::text(name);
-    print::byte(b':');
-    print::verdict(verdict);
-    print::numbers(b" buffer", buffer);
-    print::byte(b'\n');
+const AREAS: Sizes = Sizes {
+    coils: 32,
+    discretes: 16,
+    inputs: 96,
+    holding: 820,
+};
+
+// These areas; CMPR of 40001 with 40003, whose pointer is 40002; BROT of 40004 and 40005 into 40006 and 40007, with power from
+// the CMPR's middle output.
+const WORDS: [u16; 36] = [
+    4,
+    32,
+    16,
+    96,
+    820,
+    2,
+    5,
+    1,
+    4,
+    1,
+    4,
+    2,
+    1,
+    0,
+    0,
+    0,
+    0,
+    0,
+    0,
+    0,
+    0,
+    8,
+    2,
+    4,
+    4,
+    4,
+    6,
+    7,
+    1,
+    0,
+    0,
+    0,
+    0,
+    0,
+    0,
+    0,
+];
+
+// These areas, and one block whose words are 0.
+fn one_block() -> [u16; 36] {
+    let mut words = [0; 36];
+    words[0] = 4;
+    words[1] = 32;
+    words[2] = 16;
+    words[3] = 96;
+    words[4] = 820;
+    words[5] = 1;
+    words
+}
+
+// The record that 15 words spell.
+fn block_of(row: [u16; 15]) -> Block {
+    Block {
+        kind: row[0],
+        n: row[1],
+        top: Node {
+            class: row[2],
+            number: row[3],
+        },
+        middle: Node {
+            class: row[4],
+            number: row[5],
+        },
+        inputs: Inputs {
+            top: Input {
+                code: row[6],
+                number: row[7],
+            },
+            middle: Input {
+                code: row[8],
+                number: row[9],
+            },
+            bottom: Input {
+                code: row[10],
+                number: row[11],
+            },
+        },
+        coils: Coils {
+            top: row[12],
+            middle: row[13],
+            bottom: row[14],
+        },
+    }
 }
 
 // A record's 15 words, by its fields.
-fn fields(b: Block) -> [u16; 15]
-    ensures { λ r. ⌜ r ≡ spelled b ⌝ }
-{
+fn fields(b: Block) -> [u16; 15] {
     [
         b.kind,
         b.n,
@@ -46,75 +126,83 @@ fn fields(b: Block) -> [u16; 15]
     ]
 }
 
-// The record of block k of the first words of a network, or the refusal.
-fn reading(name: &[u8], words: [u16; 186], end: usize, k: usize)
-    requires { ⌜ end ≤ 186 ⌝ }
-{
-    print::text(name);
-    print::byte(b':');
-    match network::record_of(&words[..end], k) {
-        Read::Record(block) => print::numbers(b" record", &fields(block)),
-        Read::Refused(verdict) => print::refusal(verdict),
+// The record of block k of the first words, or the refusal.
+fn read(words: &[u16; 36], end: u16, k: u16) {
+    match reader::record_of(front(words, end), k as usize) {
+        Read::Record(block) => print::numbers(b": record", &fields(block)),
+        Read::Refused(verdict) => print::verdict(verdict),
     }
-    print::byte(b'\n');
 }
 
-// A record written into a network of one block and read back. The row: the record.
-pub(crate) fn round(name: &[u8], row: [u16; 40]) {
-    let mut buffer = [0u16; 40];
-    written(name, AREAS, 1, &row, &mut buffer[..15]);
-    reading(name, add(no_blocks(AREAS), buffer), 21, 1);
+// What the writer answers, and the lent words after it.
+fn written(sizes: Sizes, k: u16, block: Block, buffer: &mut [u16]) {
+    print::verdict(writer::write_record(sizes, k as usize, block, buffer));
+    print::numbers(b" buffer", buffer);
 }
 
-// The writer. The row: the words of coils, beside three holding registers; k; how many of 16 words are lent; the record.
-pub(crate) fn write(name: &[u8], row: [u16; 40]) {
+// A record written into a network of one block, and read back.
+fn round(row: [u16; 15]) {
+    let mut words = one_block();
+    print::numbers(b"\nrecord", &row);
+    written(AREAS, 1, block_of(row), &mut words[6..21]);
+    read(&words, 21, 1);
+}
+
+pub(crate) fn rounds() {
+    // AND, CMPR, MBIT, SENS, and one of length 0.
+    round([1, 15, 1, 17, 0, 33, 2, 512, 3, 1, 4, 256, 1, 2, 3]);
+    round([5, 96, 3, 1, 4, 724, 5, 1, 0, 0, 1, 0, 0, 511, 512]);
+    round([6, 255, 9, 999, 4, 566, 1, 0, 1, 0, 1, 0, 7, 7, 7]);
+    round([7, 255, 9, 0, 4, 566, 1, 0, 5, 255, 4, 254, 0, 0, 0]);
+    round([5, 0, 3, 1, 4, 724, 5, 1, 0, 0, 0, 0, 0, 0, 0]);
+}
+
+// The writer on a CMPR of 40001 in a table of so many words of coils and three holding registers: k, how many words are lent,
+// the number of the pointer, the code and the number of the top input.
+fn write(coils: u16, k: u16, lent: u16, pointer: u16, code: u16, number: u16) {
     let sizes = Sizes {
-        coils: row[0],
+        coils,
         discretes: 0,
         inputs: 0,
         holding: 3,
     };
-    let k = row[1] as usize;
-    let lent = at_most(row[2] as u32, 16);
-    let mut buffer = [7u16; 16];
-    written(name, sizes, k, &row[3..], &mut buffer[..lent]);
+    let block = block_of([5, 1, 4, 1, 4, pointer, code, number, 0, 0, 0, 0, 0, 0, 0]);
+    let mut buffer = [7; 16];
+    print::numbers(b"\nwriter", &[coils, k, lent, pointer, code, number]);
+    written(sizes, k, block, front_mut(&mut buffer, lent));
 }
 
-// The reader. The row: how many words of the network are lent, and k.
-pub(crate) fn read(name: &[u8], row: [u16; 40], words: [u16; 186]) {
-    let end = at_most(row[0] as u32, 186);
-    reading(name, words, end, row[1] as usize);
+pub(crate) fn writer() {
+    // The order of the writer's tests: sizes, k, the 15 words, the buffer.
+    write(129, 0, 14, 3, 1, 0);
+    write(0, 0, 14, 3, 1, 0);
+    write(0, 129, 14, 3, 1, 0);
+    write(0, 1, 14, 3, 1, 0);
+    write(0, 1, 14, 2, 1, 0);
+    write(0, 1, 15, 2, 1, 0);
+    write(0, 1, 16, 2, 1, 0);
+    write(0, 128, 0, 2, 1, 0);
+    // A record that reads an earlier block: k says how many are earlier.
+    write(0, 1, 15, 2, 6, 1);
+    write(0, 2, 15, 2, 6, 1);
+    write(0, 128, 15, 2, 8, 127);
+    write(0, 128, 15, 2, 8, 128);
 }
 
-pub(crate) fn all() {
-    walk(
-        b"
-record of AND: b 1 15 1 17 0 33 2 512 3 1 4 256 1 2 3
-record of CMPR: b 5 96 3 1 4 724 5 1 0 0 1 0 0 511 512
-record of MBIT: b 6 255 9 999 4 566 1 0 1 0 1 0 7 7 7
-record of SENS: b 7 255 9 0 4 566 1 0 5 255 4 254 0 0 0
-record of length 0: b 5 0 3 1 4 724 5 1
-# The order of the writer's tests: sizes, k, the 15 words, the buffer.
-writer, all wrong: w 129 0 14 5 1 4 1 4 3 1
-writer, k 0, the rest wrong: w 0 0 14 5 1 4 1 4 3 1
-writer, k 129, the rest wrong: w 0 129 14 5 1 4 1 4 3 1
-writer, words and buffer wrong: w 0 1 14 5 1 4 1 4 3 1
-writer, 14 words lent: w 0 1 14 5 1 4 1 4 2 1
-writer, 15 words lent: w 0 1 15 5 1 4 1 4 2 1
-writer, 16 words lent: w 0 1 16 5 1 4 1 4 2 1
-writer, none lent: w 0 128 0 5 1 4 1 4 2 1
-# A record that reads an earlier block: k says how many are earlier.
-writer, block 1 read by k 1: w 0 1 15 5 1 4 1 4 2 6 1
-writer, block 1 read by k 2: w 0 2 15 5 1 4 1 4 2 6 1
-writer, block 127 read by k 128: w 0 128 15 5 1 4 1 4 2 8 127
-writer, block 128 read by k 128: w 0 128 15 5 1 4 1 4 2 8 128
-# The reader on two blocks.
-reader, k 0: * 5 1 4 1 4 2 1, + 8 2 4 4 4 6 7 1, r 36 0
-reader, k 1: r 36 1
-reader, k 2: r 36 2
-reader, k 3: r 36 3
-reader, k 3 of words cut short: r 35 3
-reader, k 1 of no blocks: - 32 16 96 820, r 6 1
-",
-    );
+// The reader: how many blocks, how many words are lent, and k.
+fn ask(blocks: u16, end: u16, k: u16) {
+    let mut words = WORDS;
+    words[5] = blocks;
+    print::numbers(b"\nreader", &[blocks, end, k]);
+    read(&words, end, k);
+}
+
+pub(crate) fn reader() {
+    // k at the edges, words cut short, and no blocks.
+    ask(2, 36, 0);
+    ask(2, 36, 1);
+    ask(2, 36, 2);
+    ask(2, 36, 3);
+    ask(2, 35, 3);
+    ask(0, 6, 1);
 }

@@ -8,7 +8,7 @@ use native.Mathlib.Omega.{arith}
 use borrow.Author.Tests.{ne-eqb}
 use lib.Bits.{bitOr, or-shifted}
 use lib.Dec.{lit<}
-use Rattle.bits.specs.Bit.{odd, of, value, word}
+use Rattle.bits.specs.Bit.{odd, of, value, word-with}
 use Rattle.bits.specs.Word.{leftward}
 use Rattle.bits.proofs.move_left.Statement.{statement}
 use Rattle.bits.proofs.move_left.Tie as tie
@@ -33,7 +33,7 @@ end after h =
     let small : after / 2 ^ 15 % 2 ≡ after / 2 ^ 15 = omega arith in
     ap digit (of-digit after 0 (lit< tt)) ∙ digit-odd (after / 2 ^ 15) ∙ small
 
-moved : (w after : ℕ) → w < 2 ^ 16 → after < 2 ^ 16 → bitOr (w * 2 % 65536) (after / 32768) ≡ word (leftward w after)
+moved : (w after : ℕ) → w < 2 ^ 16 → after < 2 ^ 16 → bitOr (w * 2 % 65536) (after / 32768) ≡ word-with (leftward w after)
 unfolding value
 moved w after h l =
     let up : w * 2 % 65536 ≡ w % 32768 * 2 = omega arith in

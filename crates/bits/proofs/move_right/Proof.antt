@@ -9,7 +9,7 @@ use native.Mathlib.Omega.{arith}
 use borrow.Author.Tests.{ne-eqb}
 use lib.Bits.{bitAnd, bitOr, and-mask, or-lt}
 use lib.Dec.{eqb, lit<, lit≤}
-use Rattle.bits.specs.Bit.{odd, of, value, word}
+use Rattle.bits.specs.Bit.{odd, of, value, word-with}
 use Rattle.bits.specs.Word.{rightward}
 use Rattle.bits.proofs.move_right.Statement.{statement}
 use Rattle.bits.proofs.move_right.Tie as tie
@@ -53,7 +53,7 @@ each before w h (suc i) l =
     ∙ ap (of w) (sym (sub-one (suc (suc i))))
     ∙ ap (λ (e : Bool). cond e (of before 16) (of w (suc (suc i) - 1))) (sym later)
 
-moved : (before w : ℕ) → w < 2 ^ 16 → bitOr (w / 2) (bitAnd before 1 * 32768 % 65536) ≡ word (rightward before w)
+moved : (before w : ℕ) → w < 2 ^ 16 → bitOr (w / 2) (bitAnd before 1 * 32768 % 65536) ≡ word-with (rightward before w)
 moved before w h =
     word-of (bitOr (w / 2) (bitAnd before 1 * 32768 % 65536)) (rightward before w)
     (or-lt 16 (w / 2) (bitAnd before 1 * 32768 % 65536) (omega arith) (omega arith))

@@ -5,38 +5,20 @@ use Prim.Native.Nat.{ℕ, _+_, _-_}
 use native.Mathlib.Omega.{arith}
 use borrow.Author.Needs.{needs}
 use denote.Ref.{now}
-use lib.ListN.{length, take, drop, set}
+use lib.ListN.{take, drop, set}
 use Rattle.network.specs.Network.{areas-only}
+use Rattle.blocks.specs.declared.Located.{Located}
+use Rattle.blocks.specs.Packed.{packed, unpacked}
 use Rattle.blocks.specs.Work.{block-outputs, block-table}
-use Rattle.blocks.proofs.Written.{same-long}
-use Rattle.scan.specs.Input.{power-on}
-use Rattle.scan.specs.Scan.{packed, unpacked}
-use Rattle.scan.specs.Inner.{Ready}
-use Rattle.scan.proofs.Wired.{next-contacts, next-inputs}
+use Rattle.inputs.specs.Input.{power-on}
+use Rattle.kinds.specs.Call.{pointer-shown}
+use Rattle.scan.specs.Scans.{pointer-of}
 use Rattle.scan.proofs.run_one.Statement.{statement}
 use Rattle.scan.proofs.run_one.Tie as tie
 
 -- as many earlier entries as there are earlier blocks
 so-many : (first k : ℕ) → first + k - first ≡ k
 so-many first k = omega arith
-
--- the block and the table that it left
-ran-ready : (c : tie.After-run) → let x = c .before .before .before .before .before .before .before .before .before .args in Ready (areas-only (x .sizes)) (x .one) (c .run .last .0)
-ran-ready c =
-    let b = c .before .before .before .before .before .before .before .before .before in
-    let x = b .args in
-    record {
-      earlier = x .k;
-      runs = record {
-        good = b .pre .runs .good;
-        exact =
-            ap length (c .run .ensures .leaves)
-            ∙ same-long (areas-only (x .sizes)) (x .k) (x .one .block) (now (x .table)) (b .pre .runs) (c .before .before .power-on .result)
-            ∙ b .pre .runs .exact;
-      };
-      lies = b .pre .lies;
-      few-coils = b .pre .few-coils;
-    }
 
 add-entry : tie.Need-add-entry
 add-entry c = search needs
@@ -54,17 +36,10 @@ part-power-on-end : tie.Need-part-power-on-end
 part-power-on-end c = search needs
 
 power-on-requires : tie.Need-power-on-requires
-power-on-requires c κs =
-    let b = c .before .before .before .before .before .before in
-    let x = b .args in (
-      next-contacts (areas-only (x .sizes)) (x .one) (now (x .table)) (now (x .outputs)) (now (x .pointers)) (x .first) (x .k) (b .pre),
-      next-inputs (areas-only (x .sizes)) (x .one) (now (x .table)) (now (x .outputs)) (now (x .pointers)) (x .first) (x .k) (b .pre) (so-many (x .first) (x .k)),
-    )
+power-on-requires c κs = search needs
 
 run-requires : tie.Need-run-requires
-run-requires c κs =
-    let b = c .before .before .before .before .before .before .before .before in
-    record { earlier = b .args .k; runs = b .pre .runs; lies = b .pre .lies; few-coils = b .pre .few-coils }
+run-requires c κs = let b = c .before .before .before .before .before .before .before .before in record { earlier = b .args .k; runs = b .pre .runs; lies = b .pre .lies }
 
 packed-requires : tie.Need-packed-requires
 packed-requires c κs = search needs
@@ -76,9 +51,7 @@ slice-write-outputs : tie.Need-slice-write-outputs
 slice-write-outputs c = search needs
 
 pointer-of-requires : tie.Need-pointer-of-requires
-pointer-of-requires c κs =
-    let ran = c .before .before .before .before in
-    record { network = areas-only (ran .before .before .before .before .before .before .before .before .before .args .sizes); ready = ran-ready ran }
+pointer-of-requires c κs = search needs
 
 mul-pointers : tie.Need-mul-pointers
 mul-pointers c = search needs
@@ -96,19 +69,23 @@ same-length-3 : tie.Need-same-length-3
 same-length-3 c = search needs
 
 returns : tie.Need-returns
+unfolding pointer-of
 returns c =
-    let ran = c .before .before .before .before .before in
-    let x = ran .before .before .before .before .before .before .before .before .before .args in
+    let b = c .before .before .before .before .before .before .before .before .before .before .before .before .before .before in
+    let x = b .args in
     let t = now (x .table) in
+    let ran = c .before .before .before .before .before .run .ensures in
     let on =
-    ran .before .before .power-on .ensures
+    c .before .before .before .before .before .before .before .power-on .ensures
     ∙ ap (λ (m : ℕ). power-on (areas-only (x .sizes)) t (map unpacked (take m (drop (x .first) (now (x .outputs))))) (x .one .block .inputs)) (so-many (x .first) (x .k)) in
     record {
-      table-after = ran .run .ensures .leaves ∙ ap (block-table (areas-only (x .sizes)) (x .one .block) t) on;
+      table-after = ran .leaves ∙ ap (block-table (areas-only (x .sizes)) (x .one .block) t) on;
       entry-after =
           ap (set (now (x .outputs)) (x .first + x .k))
-          (c .before .before .packed .ensures ∙ ap packed (ran .run .ensures .answers ∙ ap (block-outputs (areas-only (x .sizes)) (x .one .block) t) on));
-      mark-after = ap (set (now (x .pointers)) (x .first + x .k)) (c .pointer-of .ensures (areas-only (x .sizes)) (ran-ready ran));
+          (c .before .before .packed .ensures ∙ ap packed (ran .answers ∙ ap (block-outputs (areas-only (x .sizes)) (x .one .block) t) on));
+      pointer-after =
+          ap (set (now (x .pointers)) (x .first + x .k))
+          (c .pointer-of .ensures ∙ ap (λ (o : Located). pointer-shown o (c .before .before .before .before .before .run .last .0)) (b .pre .lies));
     }
 
 pub run-one-spec : {M : Type 1} → statement M

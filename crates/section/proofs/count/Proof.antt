@@ -6,7 +6,7 @@ use mathlib.Core.List.{[]}
 use Prim.Native.Nat.{ℕ, suc}
 use native.Mathlib.Numerals.{add-one}
 use native.Mathlib.Omega.{arith}
-use Rattle.section.specs.Walk.{verdict}
+use Rattle.verdict.specs.Verdict.{verdict}
 use Rattle.section.proofs.Walk.{seek-missing, seek-next, seek-fault, seek-none}
 use Rattle.section.proofs.count.Statement.{statement}
 use Rattle.section.proofs.count.Tie as tie

@@ -5,20 +5,21 @@ use mathlib.Core.Path.{_≡_, sym, ap, _∙_}
 use Prim.Native.Nat.{_≤_, _<_}
 use denote.Ref.{now}
 use Rattle.network.specs.declared.checker.Opened.{Opened}
-use Rattle.network.specs.Table.{total}
+use Rattle.table.specs.Table.{total}
 use Rattle.network.specs.Check.{network-in}
 use Rattle.network.proofs.Networks.{sizes-is, end-is}
+use Rattle.file.specs.File.{last-end, largest-table}
 use Rattle.file.proofs.Files.{begun-file, check-refused, check-passed}
 use Rattle.file.proofs.checker.check.Statement.{statement}
 use Rattle.file.proofs.checker.check.Tie as tie
 
 -- where the network ends, and how many words the image has: words are below 65536
-near : (c : tie.After-total) → c .before .leading .result .next < 990000
+near : (c : tie.After-total) → c .before .leading .result .next ≤ last-end
 near c =
     let ws = now (c .before .before .before .args .words) in
     omega (arith, ap (λ (x : Opened). x .next) (c .before .leading .ensures), end-is ws, c .before .before .shared-slice-known .given 5)
 
-few : (c : tie.After-total) → c .total .result ≤ 262140
+few : (c : tie.After-total) → c .total .result ≤ largest-table
 few c =
     let ws = now (c .before .before .before .args .words) in
     let given = c .before .before .shared-slice-known .given in

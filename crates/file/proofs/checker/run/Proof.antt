@@ -8,7 +8,7 @@ use denote.Ref.{now}
 use lib.Dec.{eqb}
 use lib.ListN.{length}
 use Rattle.section.specs.Walk.{word, seek}
-use Rattle.network.specs.Fault.{counted}
+use Rattle.section.specs.Limit.{counted}
 use Rattle.file.specs.File.{most-scans, run-section}
 use Rattle.file.proofs.Files.{alone, run-refused, run-missing, run-fault, run-whole}
 use Rattle.file.proofs.checker.run.Statement.{statement}
@@ -21,9 +21,9 @@ counts c =
     let x = c .before .before .before .args in
     c .count .ensures ∙ ap (λ (w : ℕ). seek (cond (eqb w 1) 0 2 ∷ []) (length (now (x .words))) (x .at)) (c .before .word .ensures)
 
-earns : (c : tie.After-scans-fault) → let x = c .before .before .before .before .before .before .before .before .args in
-    c .scans-fault .result ≡ counted most-scans (word (now (x .words)) (x .at + 1)) 3
-earns c = c .scans-fault .ensures ∙ ap (λ (w : ℕ). counted most-scans w 3) (c .before .word2 .ensures)
+earns : (c : tie.After-counted) → let x = c .before .before .before .before .before .before .before .before .args in
+    c .counted .result ≡ counted most-scans (word (now (x .words)) (x .at + 1)) 3
+earns c = c .counted .ensures ∙ ap (λ (w : ℕ). counted most-scans w 3) (c .before .word2 .ensures)
 
 word-requires : tie.Need-word-requires
 word-requires c κs = search needs
@@ -49,8 +49,11 @@ returns-2 c = λ f. let x = c .before .before .before .before .before .before .a
 word-requires-2 : tie.Need-word-requires-2
 word-requires-2 c κs = search needs
 
-scans-fault-requires : tie.Need-scans-fault-requires
-scans-fault-requires c κs = search needs
+cast-counted : tie.Need-cast-counted
+cast-counted c = search needs
+
+counted-requires : tie.Need-counted-requires
+counted-requires c κs = search needs
 
 returns-3 : tie.Need-returns-3
 returns-3 c = λ f. let x = c .before .before .before .before .before .before .before .before .before .args in run-fault (now (x .words)) f (x .at) (counts (c .before .before .before .before .before .before)) (c .before .before .before .before .if1 .left) (c .before .before .before .if2 .left) (earns (c .before)) (c .if3 .taken) ∙ alone run-section f (now (x .words)) (x .at)
@@ -70,6 +73,7 @@ run-spec =
     add-place
     returns-2
     word-requires-2
-    scans-fault-requires
+    cast-counted
+    counted-requires
     returns-3
     returns-4)

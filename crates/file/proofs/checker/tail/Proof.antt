@@ -5,7 +5,7 @@ use mathlib.Core.Path.{_≡_, sym, ap, _∙_}
 use Prim.Native.Nat.{ℕ, _+_}
 use denote.Ref.{now}
 use lib.ListN.{drop}
-use Rattle.section.specs.Walk.{verdict}
+use Rattle.verdict.specs.Verdict.{verdict}
 use Rattle.section.specs.Section.{section-spells}
 use Rattle.file.specs.File.{File, table-words, image-section, run-section}
 use Rattle.file.proofs.Files.{judged-at, alone, tail-image, tail-run, tail-more, tail-odd, tail-done}
@@ -53,7 +53,7 @@ add-t12 : tie.Need-add-t12
 add-t12 c = search needs
 
 returns-4 : tie.Need-returns-4
-returns-4 c = λ f e. let x = c .before .before .before .before .before .before .before .before .before .args in ap (λ (n : ℕ). verdict 11 (x .at + 1 + n + 2 + 1)) (sym e) ∙ tail-odd (now (x .words)) f (x .at) (c .before .before .before .before .before .before .before .image .ensures f e ∙ sym (alone image-section f (now (x .words)) (x .at))) (x .odd) (c .before .before .before .before .before .if1 .left) (runs (c .before .before .before .before) f e) (c .before .before .if2 .left) (c .if4 .taken)
+returns-4 c = λ f e. let x = c .before .before .before .before .before .before .before .before .before .args in ap (λ (n : ℕ). verdict 11 (x .at + 1 + n + 2 + 1)) (sym e) ∙ tail-odd (now (x .words)) f (x .at) (c .before .before .before .before .before .before .before .image .ensures f e ∙ sym (alone image-section f (now (x .words)) (x .at))) (x .odd) (c .before .before .before .before .before .if1 .left) (runs (c .before .before .before .before) f e) (c .before .before .if2 .left) (cc (c .if4 .taken))
 
 returns-5 : tie.Need-returns-5
 returns-5 c = λ f e. let x = c .before .before .before .before .before .before .before .before .before .args in tail-done (now (x .words)) f (x .at) (c .before .before .before .before .before .before .before .image .ensures f e ∙ sym (alone image-section f (now (x .words)) (x .at))) (x .odd) (c .before .before .before .before .before .if1 .left) (runs (c .before .before .before .before) f e) (c .before .before .if2 .left) (omega (arith, e, c .before .if3 .left)) (c .if4 .left)

@@ -7,13 +7,13 @@ use Prim.Native.Nat.{ℕ, suc, _+_, _-_, _*_, _<_}
 use native.Mathlib.Omega.{arith}
 use borrow.Author.Needs.{needs}
 use lib.ListN.{length, getD}
-use Rattle.bits.specs.Bit.{bit, of, word}
+use Rattle.bits.specs.Bit.{bit, of, word-with, longest-whole}
 use Rattle.bits.proofs.Digits.{value-cong}
 use Rattle.matrix.specs.declared.logic.Operation.{Operation}
-use Rattle.matrix.specs.Run.{run, fault, verdict, longest-whole}
+use Rattle.runs.specs.Run.{run, fault, Accepted}
+use Rattle.verdict.specs.Verdict.{placeless}
 use Rattle.matrix.specs.Logic.{combined, combine-table}
-use Rattle.matrix.specs.Inner.{Accepted}
-use Rattle.matrix.proofs.Refusals.{accepted, fault-none, unless-done, unless-refused}
+use Rattle.runs.proofs.Refusals.{accepted, fault-none, unless-done, unless-refused}
 use Rattle.matrix.proofs.Runs.{Overwriting, none-yet, same-long, still, one-more, all-done, source-bit, run-bit}
 use Rattle.matrix.proofs.logic.combine.Statement.{statement}
 use Rattle.matrix.proofs.logic.combine.Tie as tie
@@ -31,7 +31,7 @@ abbrev μ-loop : tie.MeasureT-loop
 -- the operation on the words is the operation on the bits
 next-word : (operation : Operation) (t : List ℕ) (s d n : ℕ) (source table : List ℕ) (i : ℕ)
     → Overwriting t s d n (after operation t s d n) source table i → i < n
-    → word (λ p. combined operation (of (getD source i 0) p) (of (getD table (d + i) 0) p)) ≡ word (λ p. after operation t s d n (i * 16 + p))
+    → word-with (λ p. combined operation (of (getD source i 0) p) (of (getD table (d + i) 0) p)) ≡ word-with (λ p. after operation t s d n (i * 16 + p))
 next-word operation t s d n source table i o l =
     value-cong 16 _ (λ p. after operation t s d n (i * 16 + p))
     (λ j m. ap₂ (combined operation) (source-bit o i l j m)
@@ -44,7 +44,7 @@ returns : tie.Need-returns Inv-loop μ-loop
 unfolding combine-table
 returns c =
     let e = c .before .fault .ensures in
-    record { answers = ap verdict e; leaves = sym (unless-refused _ _ _ (λ z. c .if1 .taken (e ∙ z))) }
+    record { answers = ap placeless e; leaves = sym (unless-refused _ _ _ (λ z. c .if1 .taken (e ∙ z))) }
 
 runs : (c : tie.Else1 Inv-loop μ-loop) → let x = c .before .before .before .args in Accepted longest-whole (length (x .table .now)) (x .n) (x .s) (x .d)
 runs c = accepted _ _ _ _ _ (sym (c .before .fault .ensures) ∙ c .if1 .left)
@@ -99,7 +99,7 @@ unfolding combine-table
 returns-2 c =
     let o = c .before .loop .inv in
     let none = fault-none _ _ _ _ _ (o .runs) in
-    record { answers = ap verdict (sym none); leaves = all-done o (c .loop-test .left) ∙ sym (unless-done _ _ _ none) }
+    record { answers = ap placeless (sym none); leaves = all-done o (c .loop-test .left) ∙ sym (unless-done _ _ _ none) }
 
 pub combine-spec : {M : Type 1} → statement M
 combine-spec =

@@ -2,15 +2,15 @@
 use mathlib.Core.Path.{_≡_, sym, ap, _∙_}
 use Prim.Native.Nat.{ℕ}
 use borrow.Author.Needs.{needs}
-use Rattle.bits.specs.Bit.{of, word}
+use Rattle.bits.specs.Bit.{of, word-with}
 use Rattle.matrix.specs.declared.logic.Operation.{Operation}
 use Rattle.matrix.specs.Logic.{combined}
 use Rattle.matrix.proofs.logic.combined.Statement.{statement}
 use Rattle.matrix.proofs.logic.combined.Tie as tie
 
 -- an arm's operation is the one that is asked for
-arm : (s d : ℕ) {o asked : Operation} → asked ≡ o → word (λ p. combined o (of s p) (of d p)) ≡ word (λ p. combined asked (of s p) (of d p))
-arm s d e = ap (λ (o : Operation). word (λ p. combined o (of s p) (of d p))) (sym e)
+arm : (s d : ℕ) {o asked : Operation} → asked ≡ o → word-with (λ p. combined o (of s p) (of d p)) ≡ word-with (λ p. combined asked (of s p) (of d p))
+arm s d e = ap (λ (o : Operation). word-with (λ p. combined o (of s p) (of d p))) (sym e)
 
 enum-told : tie.Need-enum-told
 enum-told c = search needs

@@ -7,13 +7,13 @@ use Prim.Native.Nat.{ℕ, _+_, _-_, _*_, _≤_, _<_}
 use native.Mathlib.Omega.{arith}
 use borrow.Author.Needs.{needs}
 use lib.ListN.{length, getD, set, length-set}
-use Rattle.bits.specs.Bit.{of, word, matrix}
+use Rattle.bits.specs.Bit.{of, word-with, matrix, longest-whole}
 use Rattle.bits.specs.Word.{leftward, rightward}
 use Rattle.matrix.specs.declared.answer.Answer.the-variants.{Bit, Refused}
-use Rattle.matrix.specs.Run.{run, placed, fault, verdict, longest-whole}
+use Rattle.runs.specs.Run.{run, placed, fault, Accepted}
+use Rattle.verdict.specs.Verdict.{placeless}
 use Rattle.matrix.specs.Move.{moved, leaving, move-answer, move-table}
-use Rattle.matrix.specs.Inner.{Accepted}
-use Rattle.matrix.proofs.Refusals.{accepted, fault-none, unless-done, unless-refused}
+use Rattle.runs.proofs.Refusals.{accepted, fault-none, unless-done, unless-refused}
 use Rattle.matrix.proofs.Runs.{Overwriting, none-yet, same-long, one-more, all-done, source-bit}
 use Rattle.matrix.proofs.Moving.{after-inside, after-last, before-first, before-next, moved-word, left-over}
 use Rattle.matrix.proofs.shift.move_one.Statement.{statement}
@@ -37,14 +37,14 @@ module _ {t : List ℕ} {s d n : ℕ} {left wrap : Bool} {source : List ℕ} whe
 
   module _ {table : List ℕ} {before i : ℕ} (v : Moving t s d n left wrap source table before i) where
     -- the word that is stored, with the word after it
-    stored : {w : ℕ} (after : ℕ) → w ≡ cond left (word (leftward (getD source i 0) after)) (word (rightward before (getD source i 0)))
+    stored : {w : ℕ} (after : ℕ) → w ≡ cond left (word-with (leftward (getD source i 0) after)) (word-with (rightward before (getD source i 0)))
         → of after 1 ≡ moved true wrap (run t s n) n (i * 16 + 16) → Overwriting t s d n (moved left wrap (run t s n) n) source (set table (d + i) w) (i + 1)
     stored after e a =
         one-more (v .over) (v .one-left)
         (e ∙ moved-word (run t s n) n wrap source (source-bit (v .over)) left i before after (v .one-left) (v .enters) a)
 
     -- a turn of the loop
-    turn : {w : ℕ} → i < n - 1 → w ≡ cond left (word (leftward (getD source i 0) (getD source (i + 1) 0))) (word (rightward before (getD source i 0)))
+    turn : {w : ℕ} → i < n - 1 → w ≡ cond left (word-with (leftward (getD source i 0) (getD source (i + 1) 0))) (word-with (rightward before (getD source i 0)))
         → Moving t s d n left wrap source (set table (d + i) w) (getD source i 0) (i + 1)
     turn l e = record {
       over = stored (getD source (i + 1) 0) e (after-inside (run t s n) n wrap source (source-bit (v .over)) i (omega arith));
@@ -54,13 +54,13 @@ module _ {t : List ℕ} {s d n : ℕ} {left wrap : Bool} {source : List ℕ} whe
 
     -- the store after it
     last-word : {w : ℕ} (after : ℕ) → n - 1 ≤ i → after ≡ cond wrap (getD source 0 0) 0
-        → w ≡ cond left (word (leftward (getD source (n - 1) 0) after)) (word (rightward before (getD source (n - 1) 0)))
+        → w ≡ cond left (word-with (leftward (getD source (n - 1) 0) after)) (word-with (rightward before (getD source (n - 1) 0)))
         → set table (d + (n - 1)) w ≡ placed t d (matrix n (moved left wrap (run t s n) n))
     last-word {w} after l a e =
         let at : n - 1 ≡ i = omega arith in
         ap (λ (k : ℕ). set table (d + k) w) at
         ∙ all-done
-        (stored after (e ∙ ap (λ (k : ℕ). cond left (word (leftward (getD source k 0) after)) (word (rightward before (getD source k 0)))) at)
+        (stored after (e ∙ ap (λ (k : ℕ). cond left (word-with (leftward (getD source k 0) after)) (word-with (rightward before (getD source k 0)))) at)
         (ap (λ (x : ℕ). of x 1) a ∙ after-last (run t s n) n wrap source (source-bit (v .over)) i (omega arith)))
         (omega arith)
 
@@ -82,7 +82,7 @@ unfolding move-answer move-table
 returns c =
     let e = c .before .fault .ensures in
     record {
-      answers = ap (λ (k : ℕ). Refused (verdict k)) e ∙ sym (unless-refused _ _ _ (λ z. c .if1 .taken (e ∙ z)));
+      answers = ap (λ (k : ℕ). Refused (placeless k)) e ∙ sym (unless-refused _ _ _ (λ z. c .if1 .taken (e ∙ z)));
       leaves = sym (unless-refused _ _ _ (λ z. c .if1 .taken (e ∙ z)));
     }
 

@@ -4,10 +4,10 @@ use mathlib.Core.Path.{_≡_, sym, ap, _∙_}
 use native.Mathlib.Omega.{arith}
 use borrow.Author.Needs.{needs}
 use lib.ListN.{length}
-use Rattle.matrix.specs.Run.{fault-at, verdict}
+use Rattle.runs.specs.Run.{fault-at, Positioned}
+use Rattle.verdict.specs.Verdict.{placeless}
 use Rattle.matrix.specs.Single.{put-table}
-use Rattle.matrix.specs.Inner.{Located}
-use Rattle.matrix.proofs.Refusals.{located, unless-done, unless-refused}
+use Rattle.runs.proofs.Refusals.{located, unless-done, unless-refused}
 use Rattle.matrix.proofs.Singles.{put-stored}
 use Rattle.matrix.proofs.single.put_bit.Statement.{statement}
 use Rattle.matrix.proofs.single.put_bit.Tie as tie
@@ -15,7 +15,7 @@ use Rattle.matrix.proofs.single.put_bit.Tie as tie
 none : (c : tie.Else1) → let x = c .before .before .before .args in fault-at (length (x .table .now)) (x .n) (x .s) (x .p) ≡ 0
 none c = sym (c .before .fault-at .ensures) ∙ c .if1 .left
 
-at : (c : tie.Else1) → let x = c .before .before .before .args in Located (length (x .table .now)) (x .n) (x .s) (x .p)
+at : (c : tie.Else1) → let x = c .before .before .before .args in Positioned (length (x .table .now)) (x .n) (x .s) (x .p)
 at c = located _ _ _ _ (none c)
 
 fault-at-requires : tie.Need-fault-at-requires
@@ -25,7 +25,7 @@ returns : tie.Need-returns
 unfolding put-table
 returns c =
     let e = c .before .fault-at .ensures in
-    record { answers = ap verdict e; leaves = sym (unless-refused _ _ _ (λ z. c .if1 .taken (e ∙ z))) }
+    record { answers = ap placeless e; leaves = sym (unless-refused _ _ _ (λ z. c .if1 .taken (e ∙ z))) }
 
 sub-i : tie.Need-sub-i
 sub-i c = at c .counted
@@ -62,7 +62,7 @@ unfolding put-table
 returns-2 c =
     let h = at (c .before .before) in
     record {
-      answers = ap verdict (sym (none (c .before .before)));
+      answers = ap placeless (sym (none (c .before .before)));
       leaves =
           put-stored _ _ _ _ (h .run-accepted .first) (h .counted) (h .within) _ (λ k. c .before .slice-known2 .given k .fits) _ (c .put-bit .ensures)
           ∙ sym (unless-done _ _ _ (none (c .before .before)));

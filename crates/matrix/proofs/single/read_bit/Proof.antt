@@ -5,10 +5,10 @@ use native.Mathlib.Omega.{arith}
 use borrow.Author.Needs.{needs}
 use lib.ListN.{length}
 use Rattle.matrix.specs.declared.answer.Answer.the-variants.{Bit, Refused}
-use Rattle.matrix.specs.Run.{fault-at, verdict}
+use Rattle.runs.specs.Run.{fault-at, Positioned}
+use Rattle.verdict.specs.Verdict.{placeless}
 use Rattle.matrix.specs.Single.{read-answer}
-use Rattle.matrix.specs.Inner.{Located}
-use Rattle.matrix.proofs.Refusals.{located, unless-done, unless-refused}
+use Rattle.runs.proofs.Refusals.{located, unless-done, unless-refused}
 use Rattle.matrix.proofs.Singles.{single-bit}
 use Rattle.matrix.proofs.single.read_bit.Statement.{statement}
 use Rattle.matrix.proofs.single.read_bit.Tie as tie
@@ -16,7 +16,7 @@ use Rattle.matrix.proofs.single.read_bit.Tie as tie
 none : (c : tie.Else1) → let x = c .before .before .before .args in fault-at (length (x .table .now)) (x .n) (x .s) (x .p) ≡ 0
 none c = sym (c .before .fault-at .ensures) ∙ c .if1 .left
 
-at : (c : tie.Else1) → let x = c .before .before .before .args in Located (length (x .table .now)) (x .n) (x .s) (x .p)
+at : (c : tie.Else1) → let x = c .before .before .before .args in Positioned (length (x .table .now)) (x .n) (x .s) (x .p)
 at c = located _ _ _ _ (none c)
 
 fault-at-requires : tie.Need-fault-at-requires
@@ -26,7 +26,7 @@ returns : tie.Need-returns
 unfolding read-answer
 returns c =
     let e = c .before .fault-at .ensures in
-    ap (λ (k : ℕ). Refused (verdict k)) e ∙ sym (unless-refused _ _ _ (λ z. c .if1 .taken (e ∙ z)))
+    ap (λ (k : ℕ). Refused (placeless k)) e ∙ sym (unless-refused _ _ _ (λ z. c .if1 .taken (e ∙ z)))
 
 sub-i : tie.Need-sub-i
 sub-i c = at c .counted

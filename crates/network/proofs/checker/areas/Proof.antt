@@ -11,8 +11,9 @@ use lib.ListN.{length, drop}
 use Rattle.section.specs.Walk.{word, seek}
 use Rattle.section.specs.Section.{section-earns}
 use Rattle.section.proofs.Walk.{turn-refused, turn-passed}
-use Rattle.network.specs.declared.sizes.Sizes.{Sizes}
-use Rattle.network.specs.Check.{sizes-in, sizes-faults, areas-section}
+use Rattle.table.specs.declared.sizes.Sizes.{Sizes}
+use Rattle.table.specs.Table.{sizes-faults}
+use Rattle.network.specs.Check.{sizes-in, areas-section}
 use Rattle.network.proofs.checker.areas.Statement.{statement}
 use Rattle.network.proofs.checker.areas.Tie as tie
 

@@ -11,9 +11,9 @@ use lib.ListN.{length, drop}
 use Rattle.section.specs.Walk.{word, seek}
 use Rattle.section.specs.Section.{section-earns, records-earn}
 use Rattle.section.proofs.Walk.{turn-refused, turn-passed}
-use Rattle.network.specs.Record.{record-words}
-use Rattle.network.specs.Check.{most-blocks, block-faults, blocks-section}
 use Rattle.section.proofs.Words.{word-from, rest-from}
+use Rattle.record.specs.Record.{record-words}
+use Rattle.network.specs.Check.{most-blocks, block-faults, blocks-section}
 use Rattle.network.proofs.checker.blocks.Statement.{statement}
 use Rattle.network.proofs.checker.blocks.Tie as tie
 

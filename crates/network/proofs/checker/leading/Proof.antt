@@ -6,7 +6,7 @@ use denote.Ref.{now}
 use lib.ListN.{length, drop}
 use Rattle.section.specs.Walk.{seek}
 use Rattle.section.specs.Section.{section-earns}
-use Rattle.network.specs.declared.sizes.Sizes.{Sizes}
+use Rattle.table.specs.declared.sizes.Sizes.{Sizes}
 use Rattle.network.specs.Network.{areas-only}
 use Rattle.network.specs.Check.{blocks-section}
 use Rattle.network.proofs.Networks.{sizes-is, count-is, end-is, areas-refused, areas-passed}

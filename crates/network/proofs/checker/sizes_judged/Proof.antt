@@ -4,7 +4,7 @@ use native.Mathlib.Omega.{arith}
 use mathlib.Core.Path.{refl}
 use Prim.Native.Nat.{_-_}
 use Rattle.section.proofs.Walk.{Reached, begun, stop-missing, stop-fault, go-on, passed}
-use Rattle.network.specs.Check.{sizes-faults}
+use Rattle.table.specs.Table.{sizes-faults}
 use Rattle.network.proofs.checker.sizes_judged.Statement.{statement}
 use Rattle.network.proofs.checker.sizes_judged.Tie as tie
 

@@ -39,31 +39,31 @@ use denote.Triple.Table.{cited}
 use denote.Triple.Walked.{says, Stays, stay-none, stay-none-slice, walkOf, goes-none, goes-none-slice, ends-at}
 use denote.Exit.{yes}
 use Rattle.network.specs.Check.{opened, read-at, read}
-use Rattle.network.specs.Reader.{OpenedOn}
+use Rattle.reader.specs.Reader.{OpenedOn}
 use Rattle.network.specs.declared.checker.Opened.{Opened}
-use Rattle.network.specs.declared.reader.Reader.{Reader}
-use Rattle.network.specs.declared.reader.Read.{Read}
+use Rattle.reader.specs.declared.Reader.{Reader}
+use Rattle.network.specs.declared.reading.Read.{Read}
 use Rattle.network.proofs.checker.Opened as O
 use Rattle.network.proofs.checker.Opened.Laws as O′
-use Rattle.network.proofs.reader.Read as R
-use Rattle.network.proofs.reader.Read.Laws as R′
-use Rattle.network.proofs.reader.Reader as T
-use Rattle.network.proofs.reader.Reader.Laws as T′
-use Rattle.network.proofs.Reading.{gives-record}
-use Rattle.network.proofs.Calls.{answers, concludes}
-use Rattle.network.proofs.Held.{Held, typed, Words, val, Lent, Asked, lends}
-use Rattle.network.proofs.reader.Reader.open as opener
-use Rattle.network.proofs.reader.Reader.open.Symbol as opener-def
-use Rattle.network.proofs.reader.Reader.open.Symbol.{name as #open}
-use Rattle.network.proofs.reader.Reader.open.Met as opener-thm
-use Rattle.network.proofs.reader.Reader.opened as opening
-use Rattle.network.proofs.reader.Reader.opened.Symbol as opening-def
-use Rattle.network.proofs.reader.Reader.opened.Symbol.{name as #opened}
-use Rattle.network.proofs.reader.Reader.opened.Met as opening-thm
-use Rattle.network.proofs.reader.Reader.record as block
-use Rattle.network.proofs.reader.Reader.record.Symbol as block-def
-use Rattle.network.proofs.reader.Reader.record.Symbol.{name as #record}
-use Rattle.network.proofs.reader.Reader.record.Met as block-thm
+use Rattle.network.proofs.reading.Read as R
+use Rattle.network.proofs.reading.Read.Laws as R′
+use Rattle.reader.proofs.Reader as T
+use Rattle.reader.proofs.Reader.Laws as T′
+use Rattle.reader.proofs.Reading.{gives-record}
+use Rattle.reader.proofs.Calls.{answers, concludes}
+use Rattle.reader.proofs.Held.{Held, typed, Words, val, Lent, Asked, lends}
+use Rattle.reader.proofs.Reader.open as opener
+use Rattle.reader.proofs.Reader.open.Symbol as opener-def
+use Rattle.reader.proofs.Reader.open.Symbol.{name as #open}
+use Rattle.reader.proofs.Reader.open.Met as opener-thm
+use Rattle.reader.proofs.Reader.opened as opening
+use Rattle.reader.proofs.Reader.opened.Symbol as opening-def
+use Rattle.reader.proofs.Reader.opened.Symbol.{name as #opened}
+use Rattle.reader.proofs.Reader.opened.Met as opening-thm
+use Rattle.reader.proofs.Reader.record as block
+use Rattle.reader.proofs.Reader.record.Symbol as block-def
+use Rattle.reader.proofs.Reader.record.Symbol.{name as #record}
+use Rattle.reader.proofs.Reader.record.Met as block-thm
 use Rattle.records.specs.declared.lent.Asked.{Asked as Both}
 use Rattle.records.proofs.lent.Asked as B
 use Rattle.records.proofs.lent.Asked.Laws as B′
@@ -172,7 +172,7 @@ ask-spec 𝓤 H 𝓜 𝓖 𝓡 =
     concludes 𝓤 H 𝓜 𝓖 𝓡 ask.ended stayed (goes-none-slice 𝓤 H (𝓖 .A) (givenOf 𝓤 H 𝓜 𝓖) 1 (0 ∷ []) tt (plain (λ _. u16)) yes, (goes-none 𝓤 H (𝓖 .A) (givenOf 𝓤 H 𝓜 𝓖) 1 (λ _. usize) yes (λ κs x f. refl), tt))
     (ask.clauses 𝓤 H (𝓖 .A) (𝓜 .mem) (𝓡 .run)) code.env #ask code.function (code.unfolded 𝓤 H 𝓜 𝓡) (λ κs. (slice-vals, (uint-vals w64, tt))) (λ κs. (shr-slice-tells (named 0) (κs .0) u16, (uint-tells w64, tt)))
     (λ κs qs bounds a g are. walk 𝓤 H (𝓖 .A) (givenOf 𝓤 H 𝓜 𝓖) (𝓜 .mem) (𝓡 .run) (κs .0) (qs .0) (a .0) (a .1 .0) (are .1 .0 .1) (tablesOf 𝓤 H 𝓜 (tables 𝓤 H 𝓜 𝓡 code.env))
-    (cited 𝓤 H (Open 𝓤 H (𝓖 .A) (𝓜 .mem) (𝓡 .run)) 𝓜 𝓡 code.env #open opener-def.routine code.calls-network·reader·Reader·open (opener-thm.met 𝓤 H 𝓜 𝓖 𝓡))
-    (cited 𝓤 H (Opening 𝓤 H (𝓖 .A) (𝓜 .mem) (𝓡 .run)) 𝓜 𝓡 code.env #opened opening-def.routine code.calls-network·reader·Reader·opened (opening-thm.met 𝓤 H 𝓜 𝓖 𝓡))
-    (cited 𝓤 H (Record 𝓤 H (𝓖 .A) (𝓜 .mem) (𝓡 .run)) 𝓜 𝓡 code.env #record block-def.routine code.calls-network·reader·Reader·record (block-thm.met 𝓤 H 𝓜 𝓖 𝓡))
+    (cited 𝓤 H (Open 𝓤 H (𝓖 .A) (𝓜 .mem) (𝓡 .run)) 𝓜 𝓡 code.env #open opener-def.routine code.calls-reader·Reader·open (opener-thm.met 𝓤 H 𝓜 𝓖 𝓡))
+    (cited 𝓤 H (Opening 𝓤 H (𝓖 .A) (𝓜 .mem) (𝓡 .run)) 𝓜 𝓡 code.env #opened opening-def.routine code.calls-reader·Reader·opened (opening-thm.met 𝓤 H 𝓜 𝓖 𝓡))
+    (cited 𝓤 H (Record 𝓤 H (𝓖 .A) (𝓜 .mem) (𝓡 .run)) 𝓜 𝓡 code.env #record block-def.routine code.calls-reader·Reader·record (block-thm.met 𝓤 H 𝓜 𝓖 𝓡))
     (are .0))

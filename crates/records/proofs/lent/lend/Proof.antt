@@ -42,19 +42,19 @@ use denote.Triple.Spec.{tripleOf}
 use denote.Triple.Table.{cited}
 use denote.Triple.Walked.{says, Stays, stay-none, stay-none-slice, gave-slice, walkOf, goes-none, goes-none-slice, goes-gave-slice, ends-at}
 use denote.Exit.{yes}
-use Rattle.bits.specs.declared.Verdict.{Verdict}
-use Rattle.bits.proofs.Verdict as verdict
-use Rattle.bits.proofs.Verdict.Laws as verdict′
-use Rattle.network.proofs.Calls.{concludes}
-use Rattle.scan.specs.Records.{Recorded}
+use Rattle.verdict.specs.declared.Verdict.{Verdict}
+use Rattle.verdict.proofs.Verdict as verdict
+use Rattle.verdict.proofs.Verdict.Laws as verdict′
+use Rattle.reader.proofs.Calls.{concludes}
+use Rattle.outputs.specs.Records.{Recorded}
 use Rattle.blocks.specs.declared.Outputs.{Outputs}
-use Rattle.scan.proofs.Lending.{Cell}
+use Rattle.outputs.proofs.Lending.{Cell}
 use Rattle.blocks.proofs.Outputs as T
 use Rattle.blocks.proofs.Outputs.Laws as T′
-use Rattle.scan.proofs.scan as scan
-use Rattle.scan.proofs.scan.Symbol as scan-def
-use Rattle.scan.proofs.scan.Symbol.{name as #scan}
-use Rattle.scan.proofs.scan.Met as scan-thm
+use Rattle.outputs.proofs.scan as scan
+use Rattle.outputs.proofs.scan.Symbol as scan-def
+use Rattle.outputs.proofs.scan.Symbol.{name as #scan}
+use Rattle.outputs.proofs.scan.Met as scan-thm
 use Rattle.records.specs.declared.lent.Scanned.{Scanned}
 use Rattle.records.proofs.Lending.{whole-of, Lent, Lender, lent-out, lent-back}
 use Rattle.records.proofs.lent.Scanned as B
@@ -208,4 +208,4 @@ lend-spec 𝓤 H 𝓜 𝓖 𝓡 =
     (lend.clauses 𝓤 H (𝓖 .A) (𝓜 .mem) (𝓡 .run)) code.env #lend code.function (code.unfolded 𝓤 H 𝓜 𝓡) (λ κs. (slice-vals, (slice-vals, (vals-of, tt))))
     (λ κs. (shr-slice-tells (named 0) (κs .0) u16, (mut-slice-tells (named 1) (κs .1 .0) u16, (array-tells T.the-row spell (LL.tells T.the-type T′.the-laws) 5, tt))))
     (λ κs qs bounds a g are. walk 𝓤 H (𝓖 .A) (givenOf 𝓤 H 𝓜 𝓖) (𝓜 .mem) (𝓡 .run) (κs .0) (κs .1 .0) (qs .0) (qs .1 .0) (a .0) (a .1 .0) (a .1 .1 .0) (are .0 .0 .1) (are .1 .0 .0 .1) (are .1 .1 .0) (tablesOf 𝓤 H 𝓜 (tables 𝓤 H 𝓜 𝓡 code.env))
-    (cited 𝓤 H (Scan 𝓤 H (𝓖 .A) (𝓜 .mem) (𝓡 .run)) 𝓜 𝓡 code.env #scan scan-def.routine code.calls-scan·scan (scan-thm.met 𝓤 H 𝓜 𝓖 𝓡)))
+    (cited 𝓤 H (Scan 𝓤 H (𝓖 .A) (𝓜 .mem) (𝓡 .run)) 𝓜 𝓡 code.env #scan scan-def.routine code.calls-outputs·scan (scan-thm.met 𝓤 H 𝓜 𝓖 𝓡)))

@@ -21,18 +21,15 @@ abbrev μ-loop : tie.MeasureT-loop
 μ-loop words o blocks₀ count sizes k₀ blocks k = count - k
 
 -- the loop goes on while there are blocks
-below : (c : tie.In-loop Inv-loop μ-loop) → c .before .loop .k < block-count (network-in (now (c .before .before .before .before .before .before .args .words)))
+below : (c : tie.In-loop Inv-loop μ-loop) → c .before .loop .k < block-count (network-in (now (c .before .before .before .before .before .args .words)))
 below c = subst (λ (n : ℕ). c .before .loop .k < n) (c .before .loop .inv .2) (c .loop-test .taken)
-
-nothing-requires : tie.Need-nothing-requires Inv-loop μ-loop
-nothing-requires c κs = search needs
 
 cast-count : tie.Need-cast-count Inv-loop μ-loop
 cast-count c = search needs
 
 loop-holds : tie.Need-loop-holds Inv-loop μ-loop
 loop-holds c =
-    let b = c .before .before .before .before in
+    let b = c .before .before .before in
     let ws = now (b .args .words) in
     let count = count-is ws (b .pre .opens) in
     (b .pre, sizes-are ws (b .pre .opens), count, omega (arith, count, accepted-good ws (b .pre .accepted) .few), refl, λ i l d. absurd (omega arith))
@@ -53,7 +50,7 @@ returns : tie.Need-returns Inv-loop μ-loop
 returns c =
     let inside = c .before .before .before in
     let v = inside .before .loop .inv in
-    let x = inside .before .before .before .before .before .before .args in
+    let x = inside .before .before .before .before .before .args in
     absurd (is-read (now (x .words)) (x .o) (inside .before .loop .k) (v .0 .opens) (v .0 .accepted) (below inside)
     (sym (c .before .before .record-at .ensures) ∙ c .enum-told .given .1))
 
@@ -80,7 +77,7 @@ loop-again c =
     let read = c .before .before .before in
     let inside = read .before .before .before in
     let v = inside .before .loop .inv in
-    let x = inside .before .before .before .before .before .before .args in
+    let x = inside .before .before .before .before .before .args in
     let k = inside .before .loop .k in
     let block = is-next (now (x .words)) (x .o) k (v .0 .opens) (v .0 .accepted) (below inside) (sym (read .before .before .record-at .ensures) ∙ read .block .given .1) in (
       v .0,
@@ -103,7 +100,6 @@ blocks-of-spec =
     (tie.spec
     Inv-loop
     μ-loop
-    nothing-requires
     cast-count
     loop-holds
     add-record-at

@@ -1,0 +1,213 @@
+-- What a block of an accepted network writes, by its kind: a destination and a pointer, where each of them lies and how long it is.
+-- This is the one place where the kinds are gone through; what a block leaves alone follows from it. Assumes nothing.
+use mathlib.Core.Path.{_≡_, refl, sym, ap, _∙_, subst}
+use mathlib.Core.Bool.{Bool, true, false, cond, _&&_}
+use mathlib.Core.List.{List, [], _∷_}
+use mathlib.Core.Logic.{_⊎_, inl, inr, ⊎-elim}
+use mathlib.Core.Option.{Option, none, some}
+use Prim.Native.Nat.{ℕ, zero, suc, _+_, _*_, _≤_}
+use native.Mathlib.Omega.{arith}
+use borrow.Author.Tests.{eqb-true}
+use lib.Dec.{eqb, ltb}
+use lib.ListN.{length}
+use Rattle.bits.specs.Bit.{matrix}
+use Rattle.bits.proofs.Matrix.{matrix-length}
+use Rattle.matrix.specs.declared.logic.Operation.{Operation}
+use Rattle.matrix.specs.declared.logic.Operation.the-variants.{And, Or, Xor, Comp}
+use Rattle.search.specs.Search.{first-differing}
+use Rattle.pointer.specs.Pointer.{in-range}
+use Rattle.record.specs.declared.Node.{Node}
+use Rattle.record.specs.declared.Block.{Block}
+use Rattle.rules.specs.declared.rules.Classes.{Classes}
+use Rattle.network.specs.Network.{Network}
+use Rattle.table.specs.Table.{total, start-of}
+use Rattle.rules.specs.Rules.{rule}
+use Rattle.rules.specs.Fault.{top-words}
+use Rattle.table.specs.Sound.{Placed}
+use Rattle.rules.specs.Sound.{GoodNode, GoodBlock}
+use Rattle.rules.proofs.KindFacts.{Writable, KindFacts, accepted-means}
+use Rattle.blocks.specs.declared.Power.{Power}
+use Rattle.blocks.specs.Kind.{kind-of}
+use Rattle.blocks.specs.View.{View, first-word, view}
+use Rattle.blocks.specs.Effect.{Effect, effect, logic, zeroed, found, compare, rotate, modify, at-one, left-at-one, sense, effect-of}
+use Rattle.blocks.specs.Work.{pointer-node, one-word, effect-on}
+use Rattle.blocks.specs.Truths.{Runs}
+
+-- ---- what is true of each matrix that is to be written, of which there is one or none
+pub record Each (P : List ℕ → Type 0) (o : Option (List ℕ)) : Type 0 where
+  pub each : (m : List ℕ) → o ≡ some m → P m
+
+nothing : {P : List ℕ → Type 0} → Each P none
+nothing = record { each = λ m e. let q : _≡_ {A = ℕ} 0 1 = cc in absurd (omega arith) }
+
+one : {P : List ℕ → Type 0} {m : List ℕ} → P m → Each P (some m)
+one {P} {m} h = record { each = λ n e. subst P (same n e) h }
+  where
+    same : (n : List ℕ) → some m ≡ some n → m ≡ n
+    same n e = cc
+
+unless : {P : List ℕ → Type 0} {o : Option (List ℕ)} (c : Bool) → Each P o → Each P (cond c none o)
+unless true h = nothing
+unless false h = h
+
+-- of a pointer, which is one word
+any-word : {P : List ℕ → Type 0} → ((w : ℕ) → P (w ∷ [])) → (o : Option ℕ) → Each P (one-word o)
+any-word h none = nothing
+any-word h (some w) = one (h w)
+
+held-word : {P : List ℕ → Type 0} (held c : Bool) (x : ℕ) (o : Option ℕ) → (held ≡ true → (w : ℕ) → P (w ∷ [])) → Each P (one-word o)
+    → Each P (one-word (cond (held && c) (some x) o))
+held-word true c x o h k = any-word (h refl) (cond c (some x) o)
+held-word false c x o h k = k
+
+-- ---- what is true of all that an effect writes
+pub record Writes (D P : List ℕ → Type 0) (e : Effect) : Type 0 where
+  pub destination : Each D (e .destination)
+  pub pointer : Each P (one-word (e .pointer))
+
+made : {D P : List ℕ → Type 0} {d : Option (List ℕ)} {p : Option ℕ} {middle bottom : Bool} → Each D d → Each P (one-word p) → Writes D P (effect d p middle bottom)
+made h k = record { destination = h; pointer = k }
+
+either : {D P : List ℕ → Type 0} {x y : Effect} (c : Bool) → Writes D P x → Writes D P y → Writes D P (cond c x y)
+either true h k = h
+either false h k = k
+
+-- by the rule of each kind: AND, OR, XOR, COMP and BROT write a destination of n words, CMPR a pointer, MBIT both, SENS a pointer; MBIT and SENS
+-- write a pointer only where it is held
+module _ {D P : List ℕ → Type 0} (n : ℕ) (v : View) (on : Power) where
+  logic-writes : (operation : Operation) → ((f : ℕ → Bool) → D (matrix n f)) → Writes D P (logic operation n v on)
+  unfolding logic
+  logic-writes operation h = either (on .top) (made (one (h _)) nothing) (made nothing nothing)
+
+  rotate-writes : ((f : ℕ → Bool) → D (matrix n f)) → Writes D P (rotate n v on)
+  unfolding rotate
+  rotate-writes h = either (on .top) (made (one (h _)) nothing) (made nothing nothing)
+
+  found-writes : ((w : ℕ) → P (w ∷ [])) → (o : Option ℕ) → Writes D P (found n v o)
+  unfolding found
+  found-writes h none = made nothing (any-word h (some (16 * n)))
+  found-writes h (some p) = made nothing (any-word h (some p))
+
+  compare-writes : ((w : ℕ) → P (w ∷ [])) → Writes D P (compare n v on)
+  unfolding compare
+  compare-writes h =
+      either (on .top)
+      (found-writes h (first-differing (v .source) (v .destination) n (in-range (zeroed n v on) .at)))
+      (made nothing (any-word h (cond (on .middle) (some (zeroed n v on .at)) none)))
+
+  module _ (held : Bool) (h : held ≡ true → (w : ℕ) → P (w ∷ [])) where
+    modify-writes : ((f : ℕ → Bool) → D (matrix n f)) → Writes D P (modify held n v on)
+    unfolding modify
+    modify-writes d =
+        either (on .top)
+        (either (ltb (16 * n) (v .pointer)) (made nothing nothing)
+        (made (unless (eqb (v .pointer) 0) (one (d _))) (held-word held (on .bottom) _ none h nothing)))
+        (made nothing nothing)
+
+    sense-writes : Writes D P (sense held n v on)
+    unfolding sense
+    sense-writes =
+        either (on .top)
+        (either (ltb (16 * n) (at-one held n v on .at)) (made nothing left)
+        (made nothing (held-word held (on .middle) _ (left-at-one held n v on) h left)))
+        (made nothing left)
+      where
+        left : Each P (one-word (left-at-one held n v on))
+        left = held-word held (on .bottom) _ none h nothing
+
+-- ---- words that a block may write: they lie in the table, among the coils or among the holding registers
+pub record Fits (net : Network) (s words : ℕ) : Type 0 where
+  pub inside : s + words ≤ total (net .sizes)
+  pub no-inputs : (s + words ≤ net .sizes .coils) ⊎ (net .sizes .coils + net .sizes .discretes + net .sizes .inputs ≤ s)
+
+fewer : {net : Network} {s more words : ℕ} → words ≤ more → Fits net s more → Fits net s words
+fewer l f = record { inside = omega (arith, f .inside); no-inputs = ⊎-elim (λ h. inl (omega arith)) inr (f .no-inputs) }
+
+coils-fit : (net : Network) (class number words : ℕ) → class ≡ 0 → Placed (net .sizes) class number words → Fits net (start-of (net .sizes) class number) words
+unfolding start-of
+coils-fit net class number words e =
+    subst (λ (c : ℕ). Placed (net .sizes) c number words → Fits net (start-of (net .sizes) c number) words) (sym e)
+    (λ p. record { inside = omega (arith, p .inside); no-inputs = inl (omega (arith, p .inside)) })
+
+holding-fit : (net : Network) (class number words : ℕ) → class ≡ 4 → Placed (net .sizes) class number words → Fits net (start-of (net .sizes) class number) words
+unfolding start-of
+holding-fit net class number words e =
+    subst (λ (c : ℕ). Placed (net .sizes) c number words → Fits net (start-of (net .sizes) c number) words) (sym e)
+    (λ p. record { inside = omega (arith, p .inside); no-inputs = inr (omega arith) })
+
+node-fits : (net : Network) (classes : Classes) (node : Node) (words : ℕ) → GoodNode (net .sizes) classes node words → Writable node → Fits net (first-word net node) words
+node-fits net classes node words g = ⊎-elim
+    (λ e. coils-fit net (node .class) (node .number) words e (g .placed (λ q. omega arith)))
+    (λ e. holding-fit net (node .class) (node .number) words e (g .placed (λ q. omega arith)))
+
+-- ---- a block's destination: as long as its matrices, and not that of a CMPR or a SENS
+pub record Destination (net : Network) (b : Block) (m : List ℕ) : Type 0 where
+  pub as-long : length m ≡ b .n
+  pub no-compare : b .kind ≡ 5 → ⊥
+  pub no-sense : b .kind ≡ 7 → ⊥
+  pub fits : Fits net (first-word net (b .middle)) (length m)
+
+-- its pointer: one word, that of a CMPR, an MBIT or a SENS, in a holding register
+pub record Register (net : Network) (b : Block) (m : List ℕ) : Type 0 where
+  pub one-long : length m ≡ 1
+  pub kind-low : 5 ≤ b .kind
+  pub kind-high : b .kind ≤ 7
+  pub held : pointer-node (kind-of (b .kind)) b .class ≡ 4
+  pub fits : Fits net (first-word net (pointer-node (kind-of (b .kind)) b)) (length m)
+
+module _ (net : Network) (earlier : ℕ) (b : Block) (g : GoodBlock (net .sizes) earlier b) where
+  facts : KindFacts (net .sizes) b
+  facts = accepted-means (net .sizes) earlier b g
+
+  middle-fits : Writable (b .middle) → Fits net (first-word net (b .middle)) (b .n)
+  middle-fits w = fewer (omega arith) (node-fits net (rule (b .kind) .middle) (b .middle) (b .n + rule (b .kind) .extra) (g .middle-node) w)
+
+  top-fits : b .top .class ≡ 4 → Fits net (first-word net (b .top)) 1
+  top-fits e =
+      fewer (one-at-least (rule (b .kind) .pointer))
+      (node-fits net (rule (b .kind) .top) (b .top) (top-words (rule (b .kind) .pointer) (b .n)) (g .top-node) (inr e))
+    where
+      one-at-least : (pointer : Bool) → 1 ≤ top-words pointer (b .n)
+      one-at-least true = omega arith
+      one-at-least false = g .length-low
+
+  destined : Writable (b .middle) → (b .kind ≡ 5 → ⊥) → (b .kind ≡ 7 → ⊥) → (f : ℕ → Bool) → Destination net b (matrix (b .n) f)
+  destined w c s f = record {
+    as-long = matrix-length (b .n) f;
+    no-compare = c;
+    no-sense = s;
+    fits = subst (Fits net (first-word net (b .middle))) (sym (matrix-length (b .n) f)) (middle-fits w);
+  }
+
+  register : (k : ℕ) → b .kind ≡ k → 5 ≤ k → k ≤ 7 → pointer-node (kind-of k) b .class ≡ 4 → Fits net (first-word net (pointer-node (kind-of k) b)) 1
+      → (w : ℕ) → Register net b (w ∷ [])
+  register k e l u h f w = record {
+    one-long = refl;
+    kind-low = omega arith;
+    kind-high = omega arith;
+    held = ap (λ (x : ℕ). pointer-node (kind-of x) b .class) e ∙ h;
+    fits = subst (λ (x : ℕ). Fits net (first-word net (pointer-node (kind-of x) b)) 1) (sym e) f;
+  }
+
+  writes-as : (k : ℕ) → b .kind ≡ k → 1 ≤ k → k ≤ 8 → (v : View) (on : Power)
+      → Writes (Destination net b) (Register net b) (effect-of (kind-of k) (eqb (pointer-node (kind-of k) b .class) 4) (b .n) v on)
+  unfolding kind-of effect-of
+  writes-as zero e l u v on = absurd (omega arith)
+  writes-as (suc zero) e l u v on = logic-writes (b .n) v on And (destined (facts .two (inl (omega arith)) .writable) (λ q. omega arith) (λ q. omega arith))
+  writes-as (suc (suc zero)) e l u v on = logic-writes (b .n) v on Or (destined (facts .two (inl (omega arith)) .writable) (λ q. omega arith) (λ q. omega arith))
+  writes-as (suc (suc (suc zero))) e l u v on = logic-writes (b .n) v on Xor (destined (facts .two (inl (omega arith)) .writable) (λ q. omega arith) (λ q. omega arith))
+  writes-as (suc (suc (suc (suc zero)))) e l u v on = logic-writes (b .n) v on Comp (destined (facts .two (inl (omega arith)) .writable) (λ q. omega arith) (λ q. omega arith))
+  writes-as (suc (suc (suc (suc (suc zero))))) e l u v on =
+      compare-writes (b .n) v on (register 5 e (omega arith) (omega arith) (facts .compare e .held) (fewer (g .length-low) (middle-fits (inr (facts .compare e .held)))))
+  writes-as (suc (suc (suc (suc (suc (suc zero)))))) e l u v on =
+      modify-writes (b .n) v on (eqb (b .top .class) 4)
+      (λ h. let held : b .top .class ≡ 4 = eqb-true (b .top .class) 4 h in register 6 e (omega arith) (omega arith) held (top-fits held))
+      (destined (facts .modified e) (λ q. omega arith) (λ q. omega arith))
+  writes-as (suc (suc (suc (suc (suc (suc (suc zero))))))) e l u v on =
+      sense-writes (b .n) v on (eqb (b .top .class) 4)
+      (λ h. let held : b .top .class ≡ 4 = eqb-true (b .top .class) 4 h in register 7 e (omega arith) (omega arith) held (top-fits held))
+  writes-as (suc (suc (suc (suc (suc (suc (suc (suc zero)))))))) e l u v on = rotate-writes (b .n) v on (destined (facts .two (inr e) .writable) (λ q. omega arith) (λ q. omega arith))
+  writes-as (suc (suc (suc (suc (suc (suc (suc (suc (suc k))))))))) e l u v on = absurd (omega arith)
+
+pub writes : (net : Network) (earlier : ℕ) (b : Block) (t : List ℕ) → Runs net earlier b t → (on : Power) → Writes (Destination net b) (Register net b) (effect-on net b t on)
+writes net earlier b t r on = writes-as net earlier b (r .good) (b .kind) refl (r .good .kind-low) (r .good .kind-high) (view (kind-of (b .kind)) net b t) on

@@ -1,0 +1,3 @@
+-- The laws of inputs; that the contract decides its answer.
+pub mod Determined
+pub mod Wired

@@ -1,0 +1,2 @@
+-- The power that a block's inputs pass.
+pub mod Input

@@ -1,0 +1,3 @@
+-- What the call of a block's work answers and leaves, and the pointer that a block shows.
+pub mod Call
+pub mod Inner

@@ -1,0 +1,53 @@
+// A block's work, by its kind, and its pointer.
+use crate::whole::logic;
+use crate::whole::rotate;
+use blocks::Located;
+use blocks::Power;
+use blocks::Worked;
+use blocks::refused;
+use matrix::Operation;
+use pointed::compare;
+use pointed::modify;
+use pointed::pointer_in;
+use pointed::sense;
+ghost use mathlib.Core.Path.{_≡_};
+ghost use Rattle.verdict.specs.Promise.{Leaves};
+ghost use Rattle.kinds.specs.Call.{work-answer, work-table, pointer-shown};
+
+// The destination and the pointer are written as the kind's rule says; the answer is the outputs.
+pub fn work(table: &mut [u16], one: Located, on: Power) -> Worked
+    ensures { λ r. ⌜
+        Leaves (work-answer one (now (table .entry)) on) (work-table one (now (table .entry)) on) r (now (table .exit)) ⌝ }
+{
+    let block = one.block;
+    let top = one.top;
+    let middle = one.middle;
+    let n = block.n as usize;
+    let kind = block.kind;
+    match kind {
+        1 => logic(table, Operation::And, top, middle, n, on),
+        2 => logic(table, Operation::Or, top, middle, n, on),
+        3 => logic(table, Operation::Xor, top, middle, n, on),
+        4 => logic(table, Operation::Comp, top, middle, n, on),
+        5 => compare(table, block.middle, top, middle, n, on),
+        6 => modify(table, block.top, top, middle, n, on),
+        7 => sense(table, block.top, top, middle, n, on),
+        8 => rotate(table, top, middle, n, on),
+        _ => refused(4),
+    }
+}
+
+// The block's pointer as the table has it: a constant itself, or the register's content, 0 where the register is outside the
+// table; 0 for a kind without one.
+pub fn pointer_of(table: &[u16], one: Located) -> u16
+    ensures { λ r. ⌜ r ≡ pointer-shown one (now (table .entry)) ⌝ }
+{
+    let block = one.block;
+    let kind = block.kind;
+    match kind {
+        5 => pointer_in(table, block.middle, one.middle),
+        6 => pointer_in(table, block.top, one.top),
+        7 => pointer_in(table, block.top, one.top),
+        _ => 0,
+    }
+}

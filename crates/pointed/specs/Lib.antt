@@ -1,0 +1,3 @@
+-- What the calls of the kinds with a pointer earn and do.
+pub mod Call
+pub mod Inner

@@ -1,0 +1,213 @@
+-- Demand 3 at work, computed: networks that meet its premises, with what they report; and for each of its last premises a network
+-- that meets the others and breaks the conclusion. Assumes nothing.
+use mathlib.Core.Path.{_≡_, refl, ap, subst}
+use mathlib.Core.Bool.{xor}
+use mathlib.Core.List.{List, [], _∷_, flatMap}
+use mathlib.Core.Logic.{inr}
+use mathlib.Core.Option.{Option, none, some}
+use Prim.Native.Nat.{ℕ, zero, suc, _+_, _<_}
+use native.Mathlib.Omega.{arith}
+use lib.ListN.{length}
+use Rattle.bits.specs.Bit.{bit, value, matrix as matrix-of}
+use Rattle.matrix.specs.Logic.{combined}
+use Rattle.search.specs.Search.{first}
+use Rattle.pointer.specs.Pointer.{reset, in-range}
+use Rattle.record.specs.declared.Block.{Block}
+use Rattle.table.specs.Table.{total, reference-fault, start-of, sizes-faults}
+use Rattle.rules.specs.Rules.{rule, allows}
+use Rattle.record.specs.Record.{block-in, spelled}
+use Rattle.network.specs.Network.{Network, words-of}
+use Rattle.rules.specs.Fault.{faults}
+use Rattle.section.specs.Walk.{seek}
+use Rattle.section.specs.Section.{section-earns, earned, meaning, judged-from, whole, records-earn, records-in}
+use Rattle.network.specs.Check.{areas-section, block-faults, blocks-section, network-in, checked}
+use Rattle.network.specs.Sound.{GoodNetwork}
+use Rattle.network.proofs.Values.{accepted-good}
+use Rattle.blocks.specs.Work.{block-outputs, block-table}
+use Rattle.inputs.specs.Input.{passes}
+use Rattle.scan.specs.Scan.{step, steps, scanned}
+use Rattle.rounds.specs.Demand3.{above, round-length, visit, source-in, matrix-in, register-in, source-found, matrix-found, after-step, SameBits, reports, how-often, nones, SourceLeavesOut, NothingElse, Premises, Round, all-outside, Chain}
+use Rattle.rounds.proofs.Chained.{chain-is-stretch}
+use Rattle.rounds.proofs.Demand3.{demand-3}
+
+-- ---- a network that its words spell, and that the checker takes
+unfoldable spelt : Network → Network × ℕ
+unfolding words-of flatMap spelled network-in meaning records-in block-in
+    checked whole judged-from earned section-earns records-earn areas-section sizes-faults blocks-section block-faults seek faults reference-fault rule allows
+spelt net = (network-in (words-of net), checked (words-of net) .number)
+
+taken : (net : Network) → spelt net ≡ (net, 0) → GoodNetwork net
+unfolding spelt
+taken net e = subst GoodNetwork (ap (λ (p : Network × ℕ). p .0) e) (accepted-good (words-of net) (ap (λ (p : Network × ℕ). p .1) e))
+
+-- ---- scans of one table, each of what the one before left
+unfoldable pub onward : Network → List ℕ → ℕ → List ℕ
+onward net t zero = t
+onward net t (suc j) = scanned net (onward net t j) .table
+
+-- a network of so many words of coils and of holding registers
+abbrev network : ℕ → ℕ → List Block → Network
+network coils holding blocks = record { sizes = record { coils = coils; discretes = 0; inputs = 0; holding = holding }; blocks = blocks }
+
+-- a block of one word with power on top: its kind, the class and the number of its top node, its middle register, its middle coil
+abbrev block : ℕ → ℕ → ℕ → ℕ → ℕ → Block
+block kind class top middle coil = record {
+  kind = kind;
+  n = 1;
+  top = record { class = class; number = top };
+  middle = record { class = 4; number = middle };
+  inputs = record { top = record { code = 1; number = 0 }; middle = record { code = 0; number = 0 }; bottom = record { code = 0; number = 0 } };
+  coils = record { top = 0; middle = coil; bottom = 0 };
+}
+
+-- a network of three holding registers; a block on registers without coils
+abbrev registers : List Block → Network
+registers = network 0 3
+
+abbrev plain : ℕ → ℕ → ℕ → Block
+plain kind top middle = block kind 4 top middle 0
+
+-- the network of the bench's example: 40001 against 40003, with pointer 40002
+abbrev pub bench : Network
+bench = registers (plain 5 1 2 ∷ [])
+
+-- the premises hold, whatever the three registers are
+pub bench-chain : (a p b m : ℕ) → Chain bench 0 m (onward bench (a ∷ p ∷ b ∷ []))
+unfolding onward all-outside passes start-of spelt
+bench-chain a p b m = record {
+  accepted = taken bench refl;
+  there = omega arith;
+  compares = refl;
+  first-size = refl;
+  goes-on = λ j. refl;
+  powered = λ j l. refl;
+  not-reset = λ j l. refl;
+  source-leaves-out = refl;
+  others-outside = refl;
+}
+
+-- so every round of it is one, from any pointer
+pub bench-round : (a p b j : ℕ) → let given = onward bench (a ∷ p ∷ b ∷ []) in
+    Round (source-found bench 0 (given j)) (matrix-found bench 0 (given j)) 1 (reports bench 0 given j (round-length (source-found bench 0 (given j)) (matrix-found bench 0 (given j)) 1))
+bench-round a p b j =
+    let given : ℕ → List ℕ = onward bench (a ∷ p ∷ b ∷ []) in
+    let c : ℕ = round-length (source-found bench 0 (given j)) (matrix-found bench 0 (given j)) 1 in
+    demand-3 bench 0 (j + c) given (chain-is-stretch bench 0 (j + c) given (bench-chain a p b (j + c))) j (omega arith)
+
+-- the reports of its scans
+abbrev reported : List ℕ → ℕ → List (Option ℕ)
+reported t k = reports bench 0 (onward bench t) 0 k
+
+-- the example's four scans: the last bit differs, so a round is 1, 16; a last bit that agrees: 2, none; no difference: none;
+-- a pointer past the end
+pub bench-reports :
+    _≡_ {A = List (List (Option ℕ))}
+    (reported (32769 ∷ 0 ∷ 0 ∷ []) 4 ∷ reported (0 ∷ 0 ∷ 0x4000 ∷ []) 4 ∷ reported (5 ∷ 9 ∷ 5 ∷ []) 2 ∷ reported (32769 ∷ 65535 ∷ 0 ∷ []) 3 ∷ [])
+    ((some 1 ∷ some 16 ∷ some 1 ∷ some 16 ∷ [])
+    ∷ (some 2 ∷ none ∷ some 2 ∷ none ∷ [])
+    ∷ (none ∷ none ∷ [])
+    ∷ (some 1 ∷ some 16 ∷ some 1 ∷ [])
+    ∷ [])
+unfolding onward reports step steps passes block-table block-outputs first reset in-range start-of matrix-of value bit xor
+bench-reports = refl
+
+-- ---- what the last premises are for
+
+-- a statement on the numbers below 2, and below 3, from its cases
+below-two : (P : ℕ → Type 0) → P 0 → P 1 → (j : ℕ) → j < 2 → P j
+below-two P a b zero l = a
+below-two P a b (suc zero) l = b
+below-two P a b (suc (suc j)) l = absurd (omega arith)
+
+below-three : (P : ℕ → Type 0) → P 0 → P 1 → P 2 → (j : ℕ) → j < 3 → P j
+below-three P a b c zero l = a
+below-three P a b c (suc zero) l = b
+below-three P a b c (suc (suc zero)) l = c
+below-three P a b c (suc (suc (suc j))) l = absurd (omega arith)
+
+-- the source leaves out the pointer: here it is the pointer, 40002 against 40003. Nothing else changes it; but in the two scans
+-- after the first, a round by then, no scan reports no miscompare.
+abbrev own-source : Network
+own-source = registers (plain 5 2 2 ∷ [])
+
+abbrev own-tables : ℕ → List ℕ
+own-tables = onward own-source (0 ∷ 0 ∷ 0 ∷ [])
+
+pub source-must-leave-out :
+    Premises Unit (NothingElse own-source 0 3 own-tables) own-source 0 3 own-tables
+    × (Round (source-found own-source 0 (own-tables 1)) (matrix-found own-source 0 (own-tables 1)) 1
+    (reports own-source 0 own-tables 1 (round-length (source-found own-source 0 (own-tables 1)) (matrix-found own-source 0 (own-tables 1)) 1)) → ⊥)
+unfolding onward reports step steps passes block-table block-outputs first reset in-range start-of matrix-of value bit xor spelt
+    above nones
+source-must-leave-out = (
+  record {
+    accepted = taken own-source refl;
+    there = omega arith;
+    compares = refl;
+    right-size = below-three (λ j. length (own-tables j) ≡ total (own-source .sizes)) refl refl refl;
+    powered = λ j l. refl;
+    not-reset = λ j l. refl;
+    source-leaves-out = tt;
+    nothing-else = record {
+      source-stays = λ j l. below-two (λ j. SameBits 1 (source-found own-source 0 (own-tables (suc j))) (source-in own-source 0 (after-step own-source 0 (own-tables j)))) (λ p l u. refl) (λ p l u. refl) j (omega arith);
+      matrix-stays = λ j l. below-two (λ j. SameBits 1 (matrix-found own-source 0 (own-tables (suc j))) (matrix-in own-source 0 (after-step own-source 0 (own-tables j)))) (λ p l u. refl) (λ p l u. refl) j (omega arith);
+      pointer-stays = λ j l. below-two (λ j. register-in own-source 0 (visit own-source 0 (own-tables (suc j)) .table) ≡ register-in own-source 0 (after-step own-source 0 (own-tables j))) refl refl j (omega arith);
+    };
+  },
+  (λ r. let e : _≡_ {A = ℕ} 0 1 = r .none-reported in omega arith),
+)
+
+-- nothing else changes: here COMP turns the matrix over in every scan, so that bit 2 is reported, at which the two did not differ
+abbrev turned-over : Network
+turned-over = registers (plain 5 1 2 ∷ plain 4 3 3 ∷ [])
+
+abbrev turned-tables : ℕ → List ℕ
+turned-tables = onward turned-over (0x8001 ∷ 0 ∷ 0 ∷ [])
+
+pub nothing-else-must-change :
+    Premises (SourceLeavesOut turned-over 0) Unit turned-over 0 2 turned-tables
+    × (Round (source-found turned-over 0 (turned-tables 0)) (matrix-found turned-over 0 (turned-tables 0)) 1
+    (reports turned-over 0 turned-tables 0 (round-length (source-found turned-over 0 (turned-tables 0)) (matrix-found turned-over 0 (turned-tables 0)) 1)) → ⊥)
+unfolding onward reports step steps passes block-table block-outputs first combined reset in-range start-of matrix-of value bit xor spelt
+    above how-often
+nothing-else-must-change = (
+  record {
+    accepted = taken turned-over refl;
+    there = omega arith;
+    compares = refl;
+    right-size = below-two (λ j. length (turned-tables j) ≡ total (turned-over .sizes)) refl refl;
+    powered = λ j l. refl;
+    not-reset = λ j l. refl;
+    source-leaves-out = inr (omega arith);
+    nothing-else = tt;
+  },
+  (λ r. let e : _≡_ {A = ℕ} 1 0 = r .no-other 2 (omega arith) (omega arith) refl in omega arith),
+)
+
+-- the block's own coils included: a network of this block alone, whose middle coil, 00005, lies in its source, coils 1 to 16. It
+-- reports 1 and then 5, and never that there is no miscompare.
+abbrev own-coil : Network
+own-coil = network 1 2 (block 5 0 1 1 5 ∷ [])
+
+abbrev coil-tables : ℕ → List ℕ
+coil-tables = onward own-coil (0x8000 ∷ 0 ∷ 0 ∷ [])
+
+pub own-coils-included :
+    Premises (SourceLeavesOut own-coil 0) Unit own-coil 0 2 coil-tables
+    × (Round (source-found own-coil 0 (coil-tables 0)) (matrix-found own-coil 0 (coil-tables 0)) 1
+    (reports own-coil 0 coil-tables 0 (round-length (source-found own-coil 0 (coil-tables 0)) (matrix-found own-coil 0 (coil-tables 0)) 1)) → ⊥)
+unfolding onward reports step steps passes block-table block-outputs first reset in-range start-of matrix-of value bit xor spelt
+    above nones
+own-coils-included = (
+  record {
+    accepted = taken own-coil refl;
+    there = omega arith;
+    compares = refl;
+    right-size = below-two (λ j. length (coil-tables j) ≡ total (own-coil .sizes)) refl refl;
+    powered = λ j l. refl;
+    not-reset = λ j l. refl;
+    source-leaves-out = inr (omega arith);
+    nothing-else = tt;
+  },
+  (λ r. let e : _≡_ {A = ℕ} 0 1 = r .none-reported in omega arith),
+)

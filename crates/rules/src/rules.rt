@@ -1,0 +1,143 @@
+// The rules for the eight kinds, in one constant table.
+use bits::LONGEST;
+use bits::LONGEST_WHOLE;
+ghost use mathlib.Core.Path.{_≡_};
+ghost use Rattle.rules.specs.Rules.{rule, allows};
+
+// The classes that a node may have.
+pub struct Classes {
+    pub coils: bool,
+    pub discretes: bool,
+    pub inputs: bool,
+    pub holding: bool,
+    pub constants: bool,
+}
+
+// The classes of both nodes, the greatest length, the middle node's registers beside its matrix, and whether the top node is a
+// pointer.
+pub struct Rule {
+    pub top: Classes,
+    pub middle: Classes,
+    pub most: u16,
+    pub extra: u16,
+    pub pointer: bool,
+}
+
+const ANY_MATRIX: Classes = Classes {
+    coils: true,
+    discretes: true,
+    inputs: true,
+    holding: true,
+    constants: false,
+};
+
+const WRITABLE: Classes = Classes {
+    coils: true,
+    discretes: false,
+    inputs: false,
+    holding: true,
+    constants: false,
+};
+
+const HELD: Classes = Classes {
+    coils: false,
+    discretes: false,
+    inputs: false,
+    holding: true,
+    constants: false,
+};
+
+const POINTERS: Classes = Classes {
+    coils: false,
+    discretes: false,
+    inputs: true,
+    holding: true,
+    constants: true,
+};
+
+const NO_CLASS: Classes = Classes {
+    coils: false,
+    discretes: false,
+    inputs: false,
+    holding: false,
+    constants: false,
+};
+
+const LOGIC: Rule = Rule {
+    top: ANY_MATRIX,
+    middle: WRITABLE,
+    most: LONGEST_WHOLE as u16,
+    extra: 0,
+    pointer: false,
+};
+
+const COMPARE: Rule = Rule {
+    top: ANY_MATRIX,
+    middle: HELD,
+    most: LONGEST_WHOLE as u16,
+    extra: 1,
+    pointer: false,
+};
+
+const MODIFY: Rule = Rule {
+    top: POINTERS,
+    middle: WRITABLE,
+    most: LONGEST as u16,
+    extra: 0,
+    pointer: true,
+};
+
+const SENSE: Rule = Rule {
+    top: POINTERS,
+    middle: ANY_MATRIX,
+    most: LONGEST as u16,
+    extra: 0,
+    pointer: true,
+};
+
+const NO_KIND: Rule = Rule {
+    top: NO_CLASS,
+    middle: NO_CLASS,
+    most: 0,
+    extra: 0,
+    pointer: false,
+};
+
+// AND, OR, XOR, COMP, CMPR, MBIT, SENS, BROT.
+const RULES: [Rule; 8] = [LOGIC, LOGIC, LOGIC, LOGIC, COMPARE, MODIFY, SENSE, LOGIC];
+
+// The row of a kind.
+pub(crate) fn rule_of(kind: u16) -> Rule
+    ensures { λ r. ⌜ r ≡ rule kind ⌝ }
+{
+    if kind < 1 {
+        return NO_KIND;
+    }
+    if 8 < kind {
+        return NO_KIND;
+    }
+    let i = kind as usize - 1;
+    RULES[i]
+}
+
+// Whether a node may have a class.
+pub(crate) fn allows(classes: Classes, class: u16) -> bool
+    ensures { λ r. ⌜ r ≡ allows classes class ⌝ }
+{
+    if class == 0 {
+        return classes.coils;
+    }
+    if class == 1 {
+        return classes.discretes;
+    }
+    if class == 3 {
+        return classes.inputs;
+    }
+    if class == 4 {
+        return classes.holding;
+    }
+    if class == 9 {
+        return classes.constants;
+    }
+    false
+}

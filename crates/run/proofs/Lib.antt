@@ -1,0 +1,6 @@
+-- The laws of the lines of scans and of a call; the theorems; runs computed.
+pub mod Determined
+pub mod Kept
+pub mod Outcomes
+pub mod Printing
+pub mod Running

@@ -1,0 +1,3 @@
+-- The laws of refusals, and that each contract decides its answer.
+pub mod Determined
+pub mod Refusals

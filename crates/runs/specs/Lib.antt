@@ -1,0 +1,2 @@
+-- What the contracts of `runs` cite: runs of words and their refusals.
+pub mod Run

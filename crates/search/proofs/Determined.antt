@@ -1,0 +1,8 @@
+-- Two results that the public function's contract allows are equal: the contract is one equation for the answer.
+-- Assumes nothing.
+use mathlib.Core.Path.{sym, _∙_}
+use Rattle.verdict.specs.Promise.{Decides}
+use Rattle.search.proofs.first_difference.Reads as first-difference-reads
+
+pub first-difference : Decides first-difference-reads.Post
+first-difference κs a x y s t p q = p ∙ sym q

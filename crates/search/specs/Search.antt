@@ -1,0 +1,63 @@
+-- The first differing position above a start, of two matrices (document 01, "One scan", CMPR). Assumes nothing.
+use Prim.Native.Nat.{ℕ, zero, suc, _-_, _*_, _≤_, _<_}
+use mathlib.Core.Path.{_≡_}
+use mathlib.Core.Logic.{_↔_}
+use mathlib.Core.Bool.{Bool, true, false, cond, xor}
+use mathlib.Core.List.{List}
+use mathlib.Core.Option.{Option, none, some}
+use lib.ListN.{length}
+use Rattle.bits.specs.Bit.{bit, longest-whole}
+use Rattle.search.specs.declared.{Difference.Difference, Difference.the-variants.At, Difference.the-variants.Nothing, Difference.the-variants.Refused}
+use Rattle.runs.specs.Run.{run, fault, unless}
+use Rattle.verdict.specs.Verdict.{placeless}
+
+-- two matrices differ at a position
+abbrev pub differing : List ℕ → List ℕ → ℕ → Bool
+differing a b p = xor (bit a p) (bit b p)
+
+-- the first of the k positions after i at which f is on
+unfoldable pub first : (ℕ → Bool) → ℕ → ℕ → Option ℕ
+first f i zero = none
+first f i (suc k) = cond (f (suc i)) (some (suc i)) (first f (suc i) k)
+
+-- the first position above a start at which two matrices of n words differ: none where the start is 16n or more
+abbrev pub first-differing : List ℕ → List ℕ → ℕ → ℕ → Option ℕ
+first-differing a b n above = first (differing a b) above (16 * n - above)
+
+-- what the search answers: a position, or nothing
+abbrev pub reported : Option ℕ → Difference
+reported none = Nothing
+reported (some p) = At p
+
+-- the matrices are the n words from a on and the n words from b on
+unfoldable pub first-difference : List ℕ → ℕ → ℕ → ℕ → ℕ → Difference
+unfolding first
+first-difference t a b n above =
+    unless (fault longest-whole (length t) n a b)
+    (reported (first-differing (run t a n) (run t b n) n above))
+    (Refused (placeless (fault longest-whole (length t) n a b)))
+
+-- ---- what the answer means
+
+-- no position above a start differs
+abbrev pub NoneLater : List ℕ → List ℕ → ℕ → ℕ → Type 0
+NoneLater a b n above = (p : ℕ) → above < p → p ≤ 16 * n → differing a b p ≡ false
+
+-- a position is the first above a start that differs
+pub record FirstLater (a b : List ℕ) (n above p : ℕ) : Type 0 where
+  pub later : above < p
+  pub inside : p ≤ 16 * n
+  pub differs : differing a b p ≡ true
+  pub earlier-agree : (q : ℕ) → above < q → q < p → differing a b q ≡ false
+
+-- the call answers nothing exactly when it is not refused and no later position differs
+abbrev pub NothingMeansNone : Type 0
+NothingMeansNone =
+    (t : List ℕ) (a b n above : ℕ) →
+    (first-difference t a b n above ≡ Nothing) ↔ ((fault longest-whole (length t) n a b ≡ 0) × NoneLater (run t a n) (run t b n) n above)
+
+-- and a position exactly when that is the first later one that differs
+abbrev pub AtMeansFirst : Type 0
+AtMeansFirst =
+    (t : List ℕ) (a b n above p : ℕ) →
+    (first-difference t a b n above ≡ At p) ↔ ((fault longest-whole (length t) n a b ≡ 0) × FirstLater (run t a n) (run t b n) n above p)

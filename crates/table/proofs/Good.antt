@@ -1,0 +1,80 @@
+-- Good sizes and references: each earns nothing exactly when its condition holds. Assumes nothing.
+use mathlib.Core.Path.{_≡_, refl, sym, ap, ap₂}
+use mathlib.Core.Bool.{Bool, true, false, cond, not, _&&_, false≢true}
+use Prim.Native.Nat.{ℕ, zero, suc, _+_, _%_, _≤_}
+use native.Mathlib.Omega.{arith}
+use borrow.Author.Tests.{eq-eqb, le-leb, leb-true, eqb-true}
+use lib.Dec.{leb, eqb}
+use Rattle.section.specs.Truths.{Clean}
+use Rattle.section.proofs.Limits.{most-of, up-to-in}
+use Rattle.table.specs.declared.sizes.Sizes.{Sizes}
+use Rattle.table.specs.Table.{most-coils, most-discretes, most-inputs, most-holding, allowed, sizes-faults, discrete, size-of, offset, bad-start, reference-fault}
+use Rattle.table.specs.Sound.{GoodSizes, Placed}
+use Rattle.table.proofs.References.{allowed-by, reference-inside}
+
+-- ---- sizes
+pub good-sizes : (z : Sizes) → Clean (sizes-faults z) → GoodSizes z
+unfolding Clean sizes-faults
+good-sizes z c = record {
+  coils = most-of most-coils (z .coils) 3 (λ q. omega arith) (c .0);
+  discretes = most-of most-discretes (z .discretes) 3 (λ q. omega arith) (c .1 .0);
+  inputs = most-of most-inputs (z .inputs) 3 (λ q. omega arith) (c .1 .1 .0);
+  holding = most-of most-holding (z .holding) 3 (λ q. omega arith) (c .1 .1 .1 .0);
+}
+
+pub sizes-clean : (z : Sizes) → GoodSizes z → Clean (sizes-faults z)
+unfolding Clean sizes-faults
+sizes-clean z g = (
+  up-to-in most-coils (z .coils) 3 (g .coils),
+  (
+    up-to-in most-discretes (z .discretes) 3 (g .discretes),
+    (
+      up-to-in most-inputs (z .inputs) 3 (g .inputs),
+      (
+        up-to-in most-holding (z .holding) 3 (g .holding),
+        tt,
+      ),
+    ),
+  ),
+)
+
+pub sizes-allowed : (z : Sizes) → GoodSizes z → allowed z ≡ true
+sizes-allowed z g =
+    allowed-by z true true true true
+    (le-leb (z .coils) most-coils (g .coils))
+    (le-leb (z .discretes) most-discretes (g .discretes))
+    (le-leb (z .inputs) most-inputs (g .inputs))
+    (le-leb (z .holding) most-holding (g .holding))
+
+-- ---- references
+aligned-from : (d r : Bool) → (d && not r) ≡ false → d ≡ true → r ≡ true
+aligned-from true true p q = refl
+aligned-from true false p q = absurd (false≢true (sym p))
+aligned-from false r p q = absurd (false≢true q)
+
+positive : (m : ℕ) → eqb m 0 ≡ false → 1 ≤ m
+positive zero r = absurd (false≢true (sym r))
+positive (suc m) r = omega arith
+
+three : (a b c : Bool) → _≡_ {A = ℕ} (cond a 6 (cond b 7 (cond c 0 8))) 0 → (a ≡ false) × (b ≡ false) × (c ≡ true)
+three true b c h = absurd (omega arith)
+three false true c h = absurd (omega arith)
+three false false true h = (refl, refl, refl)
+three false false false h = absurd (omega arith)
+
+pub placed : (z : Sizes) (class number words : ℕ) → reference-fault z class number words ≡ 0 → Placed z class number words
+unfolding reference-fault
+placed z class number words e =
+    let t = three (eqb number 0) (bad-start class number) (leb (offset class number + words) (size-of z class)) e in
+    record {
+      counted = positive number (t .0);
+      aligned = λ d. eqb-true (number % 16) 1 (aligned-from (discrete class) (eqb (number % 16) 1) (t .1) d);
+      inside = leb-true (offset class number + words) (size-of z class) (t .2);
+    }
+
+pub unplaced : (z : Sizes) (class number words : ℕ) → Placed z class number words → reference-fault z class number words ≡ 0
+unplaced z class number words p = reference-inside z class number words (λ e. omega (arith, p .counted)) (go (discrete class) refl) (p .inside)
+  where
+    go : (d : Bool) → discrete class ≡ d → bad-start class number ≡ false
+    go true e = ap₂ (λ (x y : Bool). x && not y) e (eq-eqb (number % 16) 1 (p .aligned e))
+    go false e = ap (λ (x : Bool). x && not (eqb (number % 16) 1)) e

@@ -1,0 +1,90 @@
+// The part of a table that is a matrix.
+use crate::print;
+use crate::words::front;
+use table::Sizes;
+
+// 1 to 6 are the first words; where there are 820 holding registers, 1, 2, 3 and 4 are 40001, 40255, 40566 and 40820; 7 is every
+// other word.
+fn table() -> [u16; 964] {
+    let mut table = [7; 964];
+    table[0] = 1;
+    table[1] = 2;
+    table[2] = 3;
+    table[3] = 4;
+    table[4] = 5;
+    table[5] = 6;
+    table[144] = 1;
+    table[398] = 2;
+    table[709] = 3;
+    table[963] = 4;
+    table
+}
+
+// The words of the part, when so many words of the table are lent.
+fn part(sizes: Sizes, lent: u16, class: u16, number: u16, n: u16) {
+    let table = table();
+    let part = table::matrix(front(&table, lent), sizes, class, number, n);
+    print::numbers(b":", part);
+}
+
+// The words of the four areas, how many words of the table are lent, the class, the number and the length.
+fn case(
+    coils: u16,
+    discretes: u16,
+    inputs: u16,
+    holding: u16,
+    lent: u16,
+    class: u16,
+    number: u16,
+    n: u16,
+) {
+    print::numbers(
+        b"\nmatrix",
+        &[coils, discretes, inputs, holding, lent, class, number, n],
+    );
+    let sizes = Sizes {
+        coils,
+        discretes,
+        inputs,
+        holding,
+    };
+    part(sizes, lent, class, number, n);
+}
+
+// Two words of coils, one of discrete inputs, one input register, two holding registers.
+pub(crate) fn small() {
+    case(2, 1, 1, 2, 6, 0, 1, 2);
+    case(2, 1, 1, 2, 6, 0, 1, 3);
+    case(2, 1, 1, 2, 6, 0, 17, 1);
+    case(2, 1, 1, 2, 6, 0, 16, 1);
+    case(2, 1, 1, 2, 6, 0, 33, 1);
+    case(2, 1, 1, 2, 6, 1, 1, 1);
+    case(2, 1, 1, 2, 6, 1, 17, 1);
+    case(2, 1, 1, 2, 6, 3, 1, 1);
+    case(2, 1, 1, 2, 6, 4, 1, 2);
+    case(2, 1, 1, 2, 6, 4, 2, 1);
+    case(2, 1, 1, 2, 6, 4, 2, 2);
+    case(2, 1, 1, 2, 6, 4, 0, 1);
+    case(2, 1, 1, 2, 6, 4, 1, 0);
+    case(2, 1, 1, 2, 6, 2, 1, 1);
+    case(2, 1, 1, 2, 6, 9, 1, 1);
+}
+
+// The longest matrix, and a table that is a word short.
+pub(crate) fn large() {
+    case(32, 16, 96, 820, 964, 4, 1, 255);
+    case(32, 16, 96, 820, 964, 4, 566, 255);
+    case(32, 16, 96, 820, 964, 4, 567, 255);
+    case(32, 16, 96, 820, 964, 4, 1, 256);
+    case(32, 16, 96, 820, 963, 4, 1, 255);
+}
+
+// Discretes alone, then input registers alone, at the limit and over it.
+pub(crate) fn limits() {
+    case(128, 0, 0, 0, 128, 0, 2033, 1);
+    case(129, 0, 0, 0, 129, 0, 2033, 1);
+    case(0, 128, 0, 0, 128, 1, 2033, 1);
+    case(0, 129, 0, 0, 129, 1, 2033, 1);
+    case(0, 0, 512, 0, 512, 3, 512, 1);
+    case(0, 0, 513, 0, 513, 3, 512, 1);
+}

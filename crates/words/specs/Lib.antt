@@ -1,0 +1,2 @@
+-- What the contracts of `words` cite: the words that bytes make.
+pub mod Words
