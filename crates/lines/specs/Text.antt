@@ -6,6 +6,7 @@ use mathlib.Core.Bool.{Bool, cond}
 use mathlib.Core.List.{List, [], _∷_, _++_}
 use lib.Dec.{leb, ltb, eqb}
 use lib.ListN.{length, take, drop}
+use Rattle.verdict.specs.declared.Verdict.{Verdict}
 use Rattle.io.specs.Digits.{Fewest, digits as kit-digits}
 use Rattle.blocks.specs.declared.Outputs.{Outputs}
 use Rattle.blocks.specs.Kind.{has-pointer}
@@ -56,6 +57,11 @@ head-line count table =
 unfoldable pub end-line : ℕ → List ℕ
 unfolding decimal
 end-line scans = 101 ∷ 110 ∷ 100 ∷ 32 ∷ decimal scans ++ 10 ∷ []
+
+-- ---- the one line of a refusal, `refused`, number, place
+unfoldable pub refusal-line : Verdict → List ℕ
+unfolding decimal
+refusal-line v = 114 ∷ 101 ∷ 102 ∷ 117 ∷ 115 ∷ 101 ∷ 100 ∷ 32 ∷ field (v .number) ++ decimal (v .place) ++ 10 ∷ []
 
 -- the first line stands before scan 1 alone, the last line after the last scan alone
 abbrev pub first-line : ℕ → ℕ → ℕ → List ℕ

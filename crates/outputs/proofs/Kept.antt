@@ -1,18 +1,15 @@
 -- A refused scan keeps the table and the list. Assumes nothing.
 use mathlib.Core.Path.{_≡_, ap, _∙_}
-use mathlib.Core.List.{List, map}
+use mathlib.Core.List.{List}
 use Prim.Native.Nat.{ℕ}
+use lib.ListN.{length}
 use Rattle.verdict.specs.declared.Verdict.{Verdict}
 use Rattle.blocks.specs.declared.Outputs.{Outputs}
-use Rattle.blocks.specs.Packed.{packed, unpacked}
-use Rattle.scan.proofs.Kept.{refusal-keeps}
-use Rattle.scan.proofs.Packing.{all-back}
+use Rattle.scan.proofs.Kept.{table-kept, records-kept}
 use Rattle.outputs.specs.Records.{Recorded, RefusalKeepsRecords}
 
 pub refusal-keeps-records : RefusalKeepsRecords
-refusal-keeps-records ws t os h =
-    let kept = refusal-keeps ws t (map packed os) h in
-    (kept .0, ap (map unpacked) (kept .1) ∙ all-back os)
+refusal-keeps-records ws t list h = (table-kept ws t (length list) h, records-kept ws t list h)
 
 -- and so whatever the contract allows with a refusal for its answer
 pub scan-keeps : {ws t table : List ℕ} {os list : List Outputs} {v : Verdict} → Recorded ws t os v table list → (v .number ≡ 0 → ⊥) → (table ≡ t) × (list ≡ os)

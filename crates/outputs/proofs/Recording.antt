@@ -8,7 +8,7 @@ use native.Mathlib.Numerals.{add-one}
 use native.Mathlib.Omega.{arith}
 use borrow.Author.Tests.{eq-eqb, eqb-true, eqb-false, lt-leb, leb-true, leb-false}
 use lib.Dec.{eqb, leb}
-use lib.ListN.{length, getD, take, drop, set, length-append, length-drop, length-map}
+use lib.ListN.{length, getD, take, drop, set, length-append, length-drop, length-map, List·getD-append}
 use lib.Seq.{take-at, drop-at, take-suc, drop-cons, set-at, length-take-le}
 use Rattle.verdict.specs.declared.Verdict.{Verdict}
 use Rattle.verdict.specs.Promise.{LeavesTwo}
@@ -21,17 +21,16 @@ use Rattle.network.proofs.Networks.{count-is}
 use Rattle.network.proofs.Values.{accepted-good}
 use Rattle.blocks.specs.declared.Outputs.{Outputs}
 use Rattle.blocks.specs.Answer.{no-outputs}
-use Rattle.scan.specs.Scan.{scanned, scan-verdict, scan-table, scan-outputs}
+use Rattle.scan.specs.Scan.{scanned, scan-verdict, scan-table, scan-records, scan-packed}
 use Rattle.blocks.specs.Packed.{packed, unpacked}
-use Rattle.scan.proofs.Kept.{done-outputs, refusal-keeps, enough}
-use Rattle.scan.proofs.Packing.{unpack-pack, all-back}
+use Rattle.scan.proofs.Kept.{done-outputs, done-records, records-kept, enough}
+use Rattle.scan.proofs.Packing.{all-back}
 use Rattle.scan.proofs.Repeating.{one-count}
 use Rattle.scan.proofs.Scanning.{all-outs-count}
 use Rattle.scan.proofs.Verdicts.{by-tests}
 use Rattle.outputs.specs.declared.Numbers.{Numbers}
-use Rattle.outputs.specs.Records.{records-verdict, records-outputs, Recorded, RecordOfBlock, EntriesStay, ShortListRefused}
+use Rattle.outputs.specs.Records.{Recorded, RecordOfBlock, EntriesStay, ShortListRefused}
 use Rattle.outputs.specs.Inner.{Numbered}
-use Rattle.outputs.proofs.Kept.{refusal-keeps-records}
 
 -- ---- a list whose first k entries are filled from numbers
 abbrev pub filled : List ℕ → List Outputs → ℕ → List Outputs
@@ -68,38 +67,42 @@ same-leb n a b f g = go (leb n a) (leb n b) refl refl
     go false true p q = absurd (omega (arith, g (leb-true n b q), leb-false n a p))
     go false false p q = refl
 
-same-room : (ws t a b : List ℕ) → (block-count (network-in ws) ≤ 128 → leb (block-count (network-in ws)) (length a) ≡ leb (block-count (network-in ws)) (length b)) → scan-verdict ws t a ≡ scan-verdict ws t b
+same-room : (ws t : List ℕ) (a b : ℕ) → (block-count (network-in ws) ≤ 128 → leb (block-count (network-in ws)) a ≡ leb (block-count (network-in ws)) b) → scan-verdict ws (length t) a ≡ scan-verdict ws (length t) b
 same-room ws t a b h = go (eqb (checked ws .number) 0) refl
   where
-    go : (fine : Bool) → eqb (checked ws .number) 0 ≡ fine → scan-verdict ws t a ≡ scan-verdict ws t b
+    go : (fine : Bool) → eqb (checked ws .number) 0 ≡ fine → scan-verdict ws (length t) a ≡ scan-verdict ws (length t) b
     go true p =
         by-tests ws t a true _ _ p refl (h (accepted-good ws (eqb-true (checked ws .number) 0 p) .few)) ∙ sym (by-tests ws t b true _ _ p refl refl)
     go false p = by-tests ws t a false _ _ p refl refl ∙ sym (by-tests ws t b false _ _ p refl refl)
 
 module _ (ws t : List ℕ) (room : ℕ) {e : ℕ} (least : e ≡ min room 128) (zs : List ℕ) (long : length zs ≡ 128) {v : Verdict} {table packs : List ℕ}
-    (s : LeavesTwo (scan-verdict ws t (take e zs)) (scan-table ws t (take e zs)) (scan-outputs ws t (take e zs)) v table packs) where
-  same : (outputs : List ℕ) → length outputs ≡ room → scan-verdict ws t (take e zs) ≡ scan-verdict ws t outputs
-  same outputs l =
-      let front : length (take e zs) ≡ e = length-take-le e zs (omega (arith, least)) in
-      same-room ws t (take e zs) outputs (λ few. same-leb (block-count (network-in ws)) (length (take e zs)) (length outputs)
-      (λ u. omega (arith, least)) (λ u. omega (arith, least, few)))
+    (s : LeavesTwo (scan-verdict ws (length t) (length (take e zs))) (scan-table ws t (length (take e zs))) (scan-packed ws t (take e zs)) v table packs) where
+  front-long-is : length (take e zs) ≡ e
+  front-long-is = length-take-le e zs (omega (arith, least))
 
-  same-table : (outputs : List ℕ) → length outputs ≡ room → scan-table ws t (take e zs) ≡ scan-table ws t outputs
+  same : scan-verdict ws (length t) (length (take e zs)) ≡ scan-verdict ws (length t) room
+  same =
+      same-room ws t (length (take e zs)) room (λ few. same-leb (block-count (network-in ws)) (length (take e zs)) room
+      (λ u. omega (arith, least, front-long-is)) (λ u. omega (arith, least, few, front-long-is)))
+
+  same-table : scan-table ws t (length (take e zs)) ≡ scan-table ws t room
   unfolding scan-table
-  same-table outputs l = ap (λ (x : Verdict). cond (eqb (x .number) 0) (scanned (network-in ws) t .table) t) (same outputs l)
+  same-table = ap (λ (x : Verdict). cond (eqb (x .number) 0) (scanned (network-in ws) t .table) t) same
+
+  -- a list with this room is judged as the call was
+  judged : (list : List Outputs) → length list ≡ room → scan-verdict ws (length t) (length list) .number ≡ v .number
+  judged list l = ap (λ (x : Verdict). x .number) (ap (scan-verdict ws (length t)) l ∙ sym same ∙ sym (s .answers))
 
   pub numbered-refused : (v .number ≡ 0 → ⊥) → Numbered ws t room (record { verdict = v; count = 0; numbers = packs ++ drop e zs }) table
   numbered-refused h = record {
     few = omega arith;
     fits = omega arith;
-    leaves = λ outputs l. record {
-      answers = s .answers ∙ same outputs l;
-      leaves-one = s .leaves-one ∙ same-table outputs l;
-      leaves-other = sym (refusal-keeps ws t outputs (λ q. h (ap (λ (x : Verdict). x .number) (s .answers ∙ same outputs l) ∙ q)) .1);
-    };
+    answers = s .answers ∙ same;
+    leaves = s .leaves-one ∙ same-table;
+    fills = λ list l. sym (records-kept ws t list (λ q. h (sym (judged list l) ∙ q)));
   }
 
-  front : scan-verdict ws t (take e zs) .number ≡ 0 → take (block-count (network-in ws)) (packs ++ drop e zs) ≡ map packed (scanned (network-in ws) t .outs)
+  front : scan-verdict ws (length t) (length (take e zs)) .number ≡ 0 → take (block-count (network-in ws)) (packs ++ drop e zs) ≡ map packed (scanned (network-in ws) t .outs)
   front h =
       let numbers : List ℕ = map packed (scanned (network-in ws) t .outs) in
       ap (λ (x : List ℕ). take (block-count (network-in ws)) (x ++ drop e zs)) (s .leaves-other ∙ done-outputs ws t (take e zs) h)
@@ -108,75 +111,53 @@ module _ (ws t : List ℕ) (room : ℕ) {e : ℕ} (least : e ≡ min room 128) (
 
   pub numbered-done : v .number ≡ 0 → (n : ℕ) → n ≡ word ws 5 → Numbered ws t room (record { verdict = v; count = n; numbers = packs ++ drop e zs }) table
   numbered-done h n q =
-      let zero-number : scan-verdict ws t (take e zs) .number ≡ 0 = sym (ap (λ (x : Verdict). x .number) (s .answers)) ∙ h in
+      let zero-number : scan-verdict ws (length t) (length (take e zs)) .number ≡ 0 = sym (ap (λ (x : Verdict). x .number) (s .answers)) ∙ h in
       let count : n ≡ block-count (network-in ws) = q ∙ sym (count-is ws) in
-      let room-for : block-count (network-in ws) ≤ e = omega (arith, enough ws t (take e zs) zero-number, length-take-le e zs (omega (arith, least))) in
+      let room-for : block-count (network-in ws) ≤ e = omega (arith, enough ws t (length (take e zs)) zero-number, front-long-is) in
       record {
         few = omega (arith, least);
         fits = omega (arith, least);
-        leaves = λ outputs l. record {
-          answers = s .answers ∙ same outputs l;
-          leaves-one = s .leaves-one ∙ same-table outputs l;
-          leaves-other =
-              ap (λ (k : ℕ). take k (packs ++ drop e zs) ++ drop k outputs) count
-              ∙ ap (λ (x : List ℕ). x ++ drop (block-count (network-in ws)) outputs) (front zero-number)
-              ∙ sym (done-outputs ws t outputs (sym (ap (λ (x : Verdict). x .number) (same outputs l)) ∙ zero-number));
-        };
+        answers = s .answers ∙ same;
+        leaves = s .leaves-one ∙ same-table;
+        fills = λ list l.
+            ap (λ (k : ℕ). map unpacked (take k (packs ++ drop e zs)) ++ drop k list) count
+            ∙ ap (λ (x : List Outputs). x ++ drop (block-count (network-in ws)) list) (ap (map unpacked) (front zero-number) ∙ all-back (scanned (network-in ws) t .outs))
+            ∙ sym (done-records ws t list (judged list l ∙ h));
       }
-
--- ---- a list's rest, packed and unpacked
-pub rest-packed : (n : ℕ) (os : List Outputs) → map packed (drop n os) ≡ drop n (map packed os)
-rest-packed zero os = refl
-rest-packed (suc n) [] = refl
-rest-packed (suc n) (o ∷ os) = rest-packed n os
-
-rest-back : (n : ℕ) (os : List Outputs) → map unpacked (drop n (map packed os)) ≡ drop n os
-rest-back n os = ap (map unpacked) (sym (rest-packed n os)) ∙ all-back (drop n os)
 
 -- ---- the numbers, and the list filled from them
 pub recorded : (ws t : List ℕ) (os : List Outputs) {n : Numbers} {table : List ℕ} → Numbered ws t (length os) n table
     → Recorded ws t os (n .verdict) table (filled (n .numbers) os (n .count))
-recorded ws t os {n} h =
-    let l = h .leaves (map packed os) (length-map os packed) in
-    record {
-      answers = l .answers;
-      leaves-table = l .leaves-one;
-      leaves-records =
-          ap (λ (rest : List Outputs). map unpacked (take (n .count) (n .numbers)) ++ rest) (sym (rest-back (n .count) os))
-          ∙ sym (map-append unpacked (take (n .count) (n .numbers)) (drop (n .count) (map packed os)))
-          ∙ ap (map unpacked) (l .leaves-other);
-    }
+recorded ws t os h = record { answers = h .answers; leaves-table = h .leaves; leaves-records = h .fills os refl }
 
 -- ---- what is true of the list that is left
-record-at : (outs : List Outputs) (rest : List ℕ) (i : ℕ) (d : Outputs) → i < length outs → getD (map unpacked (map packed outs ++ rest)) i d ≡ getD outs i no-outputs
-record-at [] rest i d l = absurd (omega arith)
-record-at (out ∷ outs) rest zero d l = unpack-pack out
-record-at (out ∷ outs) rest (suc i) d l = record-at outs rest i d (omega arith)
+otherwise : (outs : List Outputs) (i : ℕ) (d e : Outputs) → i < length outs → getD outs i d ≡ getD outs i e
+otherwise [] i d e l = absurd (omega arith)
+otherwise (out ∷ outs) zero d e l = refl
+otherwise (out ∷ outs) (suc i) d e l = otherwise outs i d e (omega arith)
 
 pub record-of-block : RecordOfBlock
-record-of-block ws t os k d h l u =
-    ap (λ (w : List ℕ). getD (map unpacked w) (k - 1) d) (done-outputs ws t (map packed os) h)
-    ∙ record-at (scanned (network-in ws) t .outs) (drop (block-count (network-in ws)) (map packed os)) (k - 1) d (omega (arith, all-outs-count (network-in ws) t))
+record-of-block ws t list k d h l u =
+    let outs : List Outputs = scanned (network-in ws) t .outs in
+    let inside : k - 1 < length outs = omega (arith, all-outs-count (network-in ws) t) in
+    ap (λ (w : List Outputs). getD w (k - 1) d) (done-records ws t list h)
+    ∙ List·getD-append outs (drop (block-count (network-in ws)) list) d (k - 1) inside
+    ∙ otherwise outs (k - 1) d no-outputs inside
 
 pub entries-stay : EntriesStay
-entries-stay ws t os = go (eqb (records-verdict ws t os .number) 0) refl
+entries-stay ws t list = go (eqb (scan-verdict ws (length t) (length list) .number) 0) refl
   where
     n : ℕ
     n = block-count (network-in ws)
 
-    front : List ℕ
-    front = map packed (scanned (network-in ws) t .outs)
-
-    go : (a : Bool) → eqb (records-verdict ws t os .number) 0 ≡ a → drop n (records-outputs ws t os) ≡ drop n os
+    go : (a : Bool) → eqb (scan-verdict ws (length t) (length list) .number) 0 ≡ a → drop n (scan-records ws t list) ≡ drop n list
     go true e =
-        ap (λ (w : List ℕ). drop n (map unpacked w)) (done-outputs ws t (map packed os) (eqb-true (records-verdict ws t os .number) 0 e))
-        ∙ ap (drop n) (map-append unpacked front (drop n (map packed os)))
-        ∙ drop-at (map unpacked front) (map unpacked (drop n (map packed os))) n (length-map front unpacked ∙ one-count (network-in ws) t)
-        ∙ rest-back n os
-    go false e = ap (drop n) (refusal-keeps-records ws t os (eqb-false (records-verdict ws t os .number) 0 e) .1)
+        ap (drop n) (done-records ws t list (eqb-true (scan-verdict ws (length t) (length list) .number) 0 e))
+        ∙ drop-at (scanned (network-in ws) t .outs) (drop n list) n (all-outs-count (network-in ws) t)
+    go false e = ap (drop n) (records-kept ws t list (eqb-false (scan-verdict ws (length t) (length list) .number) 0 e))
 
 pub short-list-refused : ShortListRefused
-short-list-refused ws t os h l = by-tests ws t (map packed os) true _ _ (eq-eqb (checked ws .number) 0 h) refl (lt-leb (block-count (network-in ws)) (length (map packed os)) (omega (arith, length-map os packed))) ∙ go (eqb (length t) (total (network-in ws .sizes)))
+short-list-refused ws t list h l = by-tests ws t (length list) true _ _ (eq-eqb (checked ws .number) 0 h) refl (lt-leb (block-count (network-in ws)) (length list) l) ∙ go (eqb (length t) (total (network-in ws .sizes)))
   where
     go : (a : Bool) → cond (a && false) done (verdict 12 0) ≡ verdict 12 0
     go true = refl

@@ -22,7 +22,8 @@ use Rattle.blocks.specs.Truths.{Runs}
 use Rattle.blocks.proofs.Places.{writes}
 use Rattle.blocks.proofs.Puts.{Off, run-bits}
 use Rattle.blocks.proofs.Written.{NoCoil, with-pointer, work-spares, work-spares-word, coils-spare, coils-spare-word}
-use Rattle.rounds.specs.Demand3.{source-in, matrix-in, register-index, register-in, SameBits, apart, outside, coil-outside, coils-outside, writes-matrix, writes-pointer, block-outside}
+use Rattle.rounds.specs.Demand3.{source-in, matrix-in, register-index, register-in, SameBits}
+use Rattle.rounds.specs.Tests.{apart, outside, coil-outside, coils-outside, writes-matrix, writes-pointer, block-outside}
 
 -- ---- tests
 pub both-true : (a b : Bool) → (a && b) ≡ true → (a ≡ true) × (b ≡ true)

@@ -1,138 +1,138 @@
--- Demand 3 for the code: successive calls of `scan_packed` that keep its contract are scans of one table, and what the caller reads after
--- each is what the scan reports. Assumes nothing.
+-- Demand 3 for the calls: what the caller reads after a call is what the scan reports, so that the readings of successive calls are the
+-- reports of demand 3. Assumes nothing.
 use mathlib.Core.Path.{_≡_, refl, sym, ap, ap₂, _∙_, subst}
-use mathlib.Core.Bool.{Bool, true, false, cond}
-use mathlib.Core.List.{List, _∷_, _++_, map, map-append}
+use mathlib.Core.Bool.{Bool, cond}
+use mathlib.Core.List.{List, _∷_, _++_, map}
 use mathlib.Core.Option.{Option, none, some}
-use Prim.Native.Nat.{ℕ, zero, suc, _+_, _<_}
+use Prim.Native.Nat.{ℕ, zero, suc, _+_, _*_, _≤_, _<_}
 use native.Mathlib.Omega.{arith}
-use borrow.Author.Tests.{eq-eqb}
 use lib.ListN.{length, getD, drop, length-map, List·getD-append}
 use denote.Ref.{now}
 use Rattle.verdict.specs.declared.Verdict.{Verdict}
 use Rattle.verdict.specs.Promise.{LeavesTwo}
-use Rattle.table.specs.Table.{total}
 use Rattle.network.specs.Network.{Network, block-of, block-count}
 use Rattle.network.specs.Check.{network-in}
+use Rattle.network.specs.Sound.{GoodNetwork}
 use Rattle.network.proofs.Values.{accepted-good}
 use Rattle.blocks.specs.declared.Outputs.{Outputs}
 use Rattle.blocks.specs.Answer.{no-outputs}
-use Rattle.scan.specs.Scan.{State, step, scanned, scan-verdict, scan-table, scan-outputs}
 use Rattle.blocks.specs.Packed.{packed, unpacked}
-use Rattle.rounds.specs.Demand3.{round-length, power-at, register-in, source-found, matrix-found, done-by, report, reports, Round, leaves-out, left-alone, Chain, Calls, reading, readings, Demand3Calls, RecordCalls, Demand3Records}
-use Rattle.scan.proofs.Kept.{exact-table, checks, done-outputs}
-use Rattle.inputs.proofs.Wired.{unpacked-at}
-use Rattle.scan.proofs.Packing.{packed-at, unpack-pack, all-back}
-use Rattle.scan.proofs.Scanning.{after, after-next, all-outs-count}
-use Rattle.rounds.proofs.Chained.{chain-is-stretch, own-coils, to-the-end, sizes-stay}
-use Rattle.rounds.proofs.Demand3.{demand-3}
+use Rattle.scan.specs.Scan.{scanned, scan-verdict, scan-table, scan-packed}
+use Rattle.scan.specs.Scans.{scans-table, scans-outputs, scans-pointers, scans-verdict}
+use Rattle.scan.proofs.Kept.{exact-table, checks, done-outputs, done-records, scans-checks, scans-exact-table, done-packed, done-pointed}
+use Rattle.scan.proofs.Repeating.{next-room, outputs-count, pointers-count, scans-exact}
+use Rattle.run.proofs.Printing.{output-entry, pointer-entry}
+use Rattle.scan.proofs.Packing.{packed-at, unpack-pack}
+use Rattle.scan.proofs.Scanning.{all-outs-count}
 use Rattle.scan.proofs.scan_packed.Reads as packed-reads
-use Rattle.outputs.proofs.Recording.{rest-packed}
+use Rattle.inputs.proofs.Wired.{unpacked-at}
+use Rattle.rounds.specs.Demand3.{source-found, matrix-found, report, Steady, Scanning, in-turn, round-at, RoundAt}
+use Rattle.rounds.specs.Calls.{reading, PointerKept, RecordCalls, Demand3Records, PackedCalls, Demand3Packed, entry-read, Demand3Scans}
+use Rattle.rounds.proofs.Climb.{round-some}
+use Rattle.rounds.proofs.Marks.{shown-pointer}
+use Rattle.rounds.proofs.Demand3.{demand-3}
 
-module _ (ws : List ℕ) (i : ℕ) (tables packs : ℕ → List ℕ) (verdicts : ℕ → Verdict) (K : Calls ws tables packs verdicts) where
+-- what says the same in every scan says the same in turn
+pub in-turn-same : {f g : ℕ → Option ℕ} {m : ℕ} → ((j : ℕ) → j < m → f j ≡ g j) → (k j : ℕ) → j + k ≤ m → in-turn f j k ≡ in-turn g j k
+unfolding in-turn
+in-turn-same h zero j l = refl
+in-turn-same h (suc k) j l = ap₂ (λ (o : Option ℕ) (r : List (Option ℕ)). o ∷ r) (h j (omega arith)) (in-turn-same h k (suc j) (omega arith))
+
+-- so where a caller reads in every scan what it reports, the demand is the caller's
+pub as-read : {net : Network} {i m : ℕ} {given : ℕ → List ℕ} → Scanning net m given → Steady net i m given → (says : ℕ → Option ℕ)
+    → ((j : ℕ) → j < m → says j ≡ report net i (given j)) → (j : ℕ) → j + round-at net i given j ≤ m → RoundAt net i given j (in-turn says j (round-at net i given j))
+as-read {net} {i} {m} {given} R S says h j l = subst (RoundAt net i given j) (sym (in-turn-same h (round-at net i given j) j l)) (demand-3 net i m given R S j l)
+
+-- ---- calls with records
+module _ (ws : List ℕ) (i m : ℕ) (lent left : ℕ → List ℕ) (lists records : ℕ → List Outputs) (answers : ℕ → Verdict) (K : RecordCalls ws m lent left lists records answers) where
   abbrev net : Network
   net = network-in ws
 
-  taken : (j : ℕ) → scan-verdict ws (tables j) (packs j) .number ≡ 0
-  taken j = sym (ap (λ (v : Verdict). v .number) (K .kept j .answers)) ∙ K .done j
+  taken : (j : ℕ) → j < m → scan-verdict ws (length (lent j)) (length (lists j)) .number ≡ 0
+  taken j l = sym (ap (λ (v : Verdict). v .number) (K .kept j l .answers)) ∙ K .done j l
 
-  goes-on : (j : ℕ) → tables (suc j) ≡ scanned net (tables j) .table
-  unfolding scan-table
-  goes-on j =
-      K .kept j .leaves-one
-      ∙ ap (λ (a : Bool). cond a (scanned net (tables j) .table) (tables j)) (eq-eqb (scan-verdict ws (tables j) (packs j) .number) 0 (taken j))
+  -- a scan is done at all only where the network is accepted and the table fits
+  scanning : (j : ℕ) → j < m → Scanning net m lent
+  scanning j l = record {
+    accepted = accepted-good ws (checks ws (lent j) (length (lists j)) (taken j l));
+    right-size = λ k u. exact-table ws (lent k) (length (lists k)) (taken k u);
+  }
 
-  outputs-are : (j : ℕ) → packs (suc j) ≡ map packed (scanned net (tables j) .outs) ++ drop (block-count net) (packs j)
-  outputs-are j = K .kept j .leaves-other ∙ done-outputs ws (tables j) (packs j) (taken j)
+  reads : i < block-count net → PointerKept net i m lent left → (j : ℕ) → j < m → reading net i (left j) (records j) ≡ report net i (lent j)
+  reads there kept j l =
+      let outs : List Outputs = scanned net (lent j) .outs in
+      ap₂ (λ (p : Outputs) (x : ℕ). cond (p .middle) (some x) none)
+      (ap (λ (list : List Outputs). getD list i no-outputs) (K .kept j l .leaves-records ∙ done-records ws (lent j) (lists j) (taken j l))
+      ∙ List·getD-append outs (drop (block-count net) (lists j)) no-outputs i (omega (arith, all-outs-count net (lent j))))
+      (kept j l)
 
-  -- the block's packed output, unpacked
-  output-at : i < block-count net → (j : ℕ) → unpacked (getD (packs (suc j)) i 0) ≡ getD (scanned net (tables j) .outs) i no-outputs
-  output-at l j =
-      let outs : List Outputs = scanned net (tables j) .outs in
-      let inside : i < length outs = omega (arith, all-outs-count net (tables j)) in
-      ap (λ (p : List ℕ). unpacked (getD p i 0)) (outputs-are j)
-      ∙ ap unpacked (List·getD-append (map packed outs) (drop (block-count net) (packs j)) 0 i (omega (arith, length-map outs packed, inside)) ∙ packed-at outs i)
-      ∙ unpack-pack (getD outs i no-outputs)
+pub demand-3-records : Demand3Records
+demand-3-records ws i m lent left lists records answers K S kept j l =
+    let c = round-some (source-found (network-in ws) i (lent j)) (matrix-found (network-in ws) i (lent j)) (block-of (network-in ws) i .n) in
+    as-read (scanning ws i m lent left lists records answers K 0 (omega (arith, c))) S
+    (λ s. reading (network-in ws) i (left s) (records s)) (reads ws i m lent left lists records answers K (S .there) kept) j l
 
-  module _ (there : i < block-count net) (compares : block-of net i .kind ≡ 5) (out : leaves-out net i ≡ true) (alone : left-alone net i ≡ true)
-      (on : (j : ℕ) → power-at net i (tables j) .top ≡ true) (off : (j : ℕ) → power-at net i (tables j) .middle ≡ false) where
-    chain : (m : ℕ) → Chain net i m tables
-    chain m = record {
-      accepted = accepted-good ws (checks ws (tables 0) (packs 0) (taken 0));
-      there = there;
-      compares = compares;
-      first-size = exact-table ws (tables 0) (packs 0) (taken 0);
-      goes-on = goes-on;
-      powered = λ j l. on j;
-      not-reset = λ j l. off j;
-      source-leaves-out = out;
-      others-outside = alone;
-    }
+-- ---- and with numbers
+module _ (ws : List ℕ) (i m : ℕ) (lent left : ℕ → List ℕ) (lists numbers : ℕ → List ℕ) (answers : ℕ → Verdict) (K : PackedCalls ws m lent left lists numbers answers) where
+  abbrev packed-net : Network
+  packed-net = network-in ws
 
-    -- the pointer at the scan's end is the one that the block left
-    pointer-at-end : (j : ℕ) → register-in net i (tables (suc j)) ≡ register-in net i (done-by net i (tables j))
-    unfolding after step
-    pointer-at-end j =
-        let long : length (tables j) ≡ total (net .sizes) = sizes-stay (chain 0) j in
-        ap (register-in net i) (goes-on j)
-        ∙ to-the-end (chain 0) (tables j) long .pointer-kept
-        ∙ sym (own-coils (chain 0) (tables j) long .pointer-kept)
-        ∙ ap (λ (s : State). register-in net i (s .table)) (after-next net (tables j) i there)
+  packed-taken : (j : ℕ) → j < m → scan-verdict ws (length (lent j)) (length (lists j)) .number ≡ 0
+  packed-taken j l = sym (ap (λ (v : Verdict). v .number) (K .kept j l .answers)) ∙ K .done j l
 
-    reading-is : (j : ℕ) → reading net i (tables (suc j)) (map unpacked (packs (suc j))) ≡ report net i (tables j)
-    reading-is j = ap₂ (λ (p : Outputs) (x : ℕ). cond (p .middle) (some x) none) (unpacked-at (packs (suc j)) i ∙ output-at there j) (pointer-at-end j)
+  packed-scanning : (j : ℕ) → j < m → Scanning packed-net m lent
+  packed-scanning j l = record {
+    accepted = accepted-good ws (checks ws (lent j) (length (lists j)) (packed-taken j l));
+    right-size = λ k u. exact-table ws (lent k) (length (lists k)) (packed-taken k u);
+  }
 
-    readings-are : (k j : ℕ) → readings net i tables (λ n. map unpacked (packs n)) j k ≡ reports net i tables j k
-    unfolding readings reports
-    readings-are zero j = refl
-    readings-are (suc k) j = ap₂ (λ (o : Option ℕ) (l : List (Option ℕ)). o ∷ l) (reading-is j) (readings-are k (suc j))
+  packed-reads-it : i < block-count packed-net → PointerKept packed-net i m lent left → (j : ℕ) → j < m → reading packed-net i (left j) (map unpacked (numbers j)) ≡ report packed-net i (lent j)
+  packed-reads-it there kept j l =
+      let outs : List Outputs = scanned packed-net (lent j) .outs in
+      ap₂ (λ (p : Outputs) (x : ℕ). cond (p .middle) (some x) none)
+      (unpacked-at (numbers j) i
+      ∙ ap (λ (list : List ℕ). unpacked (getD list i 0)) (K .kept j l .leaves-other ∙ done-outputs ws (lent j) (lists j) (packed-taken j l))
+      ∙ ap unpacked
+      (List·getD-append (map packed outs) (drop (block-count packed-net) (lists j)) 0 i (omega (arith, length-map outs packed, all-outs-count packed-net (lent j)))
+      ∙ packed-at outs i)
+      ∙ unpack-pack (getD outs i no-outputs))
+      (kept j l)
 
-    pub calls-round : (j : ℕ) → Round (source-found net i (tables j)) (matrix-found net i (tables j)) (block-of net i .n)
-        (readings net i tables (λ n. map unpacked (packs n)) j (round-length (source-found net i (tables j)) (matrix-found net i (tables j)) (block-of net i .n)))
-    calls-round j =
-        let c : ℕ = round-length (source-found net i (tables j)) (matrix-found net i (tables j)) (block-of net i .n) in
-        subst (Round (source-found net i (tables j)) (matrix-found net i (tables j)) (block-of net i .n)) (sym (readings-are c j))
-        (demand-3 net i (j + c) tables (chain-is-stretch net i (j + c) tables (chain (j + c))) j (omega arith))
+pub demand-3-packed : Demand3Packed
+demand-3-packed ws i m lent left lists numbers answers K S kept j l =
+    let c = round-some (source-found (network-in ws) i (lent j)) (matrix-found (network-in ws) i (lent j)) (block-of (network-in ws) i .n) in
+    as-read (packed-scanning ws i m lent left lists numbers answers K 0 (omega (arith, c))) S
+    (λ s. reading (network-in ws) i (left s) (map unpacked (numbers s))) (packed-reads-it ws i m lent left lists numbers answers K (S .there) kept) j l
 
-pub demand-3-calls : Demand3Calls
-demand-3-calls ws i tables packs verdicts K there compares out alone on off j = calls-round ws i tables packs verdicts K there compares out alone on off j
-
--- the contract that `Calls` speaks of is the one that the check reads off the source
+-- the contract that `PackedCalls` speaks of is the one that the check reads off the source
 pub as-the-source-has-it : (κs : _) (a : _) (r : Verdict) (s : _) → packed-reads.Post κs a r s
-    → LeavesTwo (scan-verdict (now (a .0)) (now (a .1 .0)) (now (a .1 .1 .0))) (scan-table (now (a .0)) (now (a .1 .0)) (now (a .1 .1 .0))) (scan-outputs (now (a .0)) (now (a .1 .0)) (now (a .1 .1 .0)))
+    → LeavesTwo (scan-verdict (now (a .0)) (length (now (a .1 .0))) (length (now (a .1 .1 .0)))) (scan-table (now (a .0)) (now (a .1 .0)) (length (now (a .1 .1 .0)))) (scan-packed (now (a .0)) (now (a .1 .0)) (now (a .1 .1 .0)))
     r (now (s .1 .0)) (now (s .1 .1 .0))
 as-the-source-has-it κs a r s p = p
 
--- ---- the same with records: calls of `scan` are, in numbers, calls of `scan_packed`
-module _ (ws : List ℕ) (tables : ℕ → List ℕ) (lists : ℕ → List Outputs) (verdicts : ℕ → Verdict) (K : RecordCalls ws tables lists verdicts) where
-  abbrev packs : ℕ → List ℕ
-  packs j = map packed (lists j)
+-- ---- several scans in one call: the block's entries in the lists
+module _ (net : Network) (t : List ℕ) (m i : ℕ) (numbers marks more others : List ℕ) (G : GoodNetwork net) (there : i < block-count net) (compares : block-of net i .kind ≡ 5)
+    (outs : numbers ≡ scans-outputs net t m ++ more) (points : marks ≡ scans-pointers net t m ++ others) where
+  entry-reads : (j : ℕ) → j < m → entry-read net i numbers marks j ≡ report net i (scans-table net t j)
+  entry-reads j l =
+      let room = next-room j m (block-count net) (m * block-count net) l (omega arith) in
+      ap₂ (λ (p : Outputs) (x : ℕ). cond (p .middle) (some x) none)
+      (ap (λ (list : List ℕ). unpacked (getD list (j * block-count net + i) 0)) outs
+      ∙ ap unpacked
+      (List·getD-append (scans-outputs net t m) more 0 (j * block-count net + i) (omega (arith, room, outputs-count net m t))
+      ∙ output-entry net j m i t l there)
+      ∙ unpack-pack (getD (scanned net (scans-table net t j) .outs) i no-outputs))
+      (ap (λ (list : List ℕ). getD list (j * block-count net + i) 0) points
+      ∙ List·getD-append (scans-pointers net t m) others 0 (j * block-count net + i) (omega (arith, room, pointers-count net m t))
+      ∙ pointer-entry net j m i t l there
+      ∙ shown-pointer net G i there compares (scans-table net t j))
 
-  packs-after : (j : ℕ) → packs (suc j) ≡ scan-outputs ws (tables j) (packs j)
-  packs-after j =
-      let outs : List Outputs = scanned (network-in ws) (tables j) .outs in
-      let rest : List Outputs = drop (block-count (network-in ws)) (lists j) in
-      let is : scan-outputs ws (tables j) (packs j) ≡ map packed (outs ++ rest) =
-      done-outputs ws (tables j) (packs j) (sym (ap (λ (v : Verdict). v .number) (K .kept j .answers)) ∙ K .done j)
-      ∙ ap (λ (x : List ℕ). map packed outs ++ x) (sym (rest-packed (block-count (network-in ws)) (lists j)))
-      ∙ sym (map-append packed outs rest) in
-      ap (map packed) (K .kept j .leaves-records ∙ ap (map unpacked) is ∙ all-back (outs ++ rest)) ∙ sym is
-
-  in-numbers : Calls ws tables packs verdicts
-  in-numbers = record {
-    kept = λ j. record { answers = K .kept j .answers; leaves-one = K .kept j .leaves-table; leaves-other = packs-after j };
-    done = K .done;
-  }
-
-  same-readings : (i k j : ℕ) → readings (network-in ws) i tables (λ n. map unpacked (packs n)) j k ≡ readings (network-in ws) i tables lists j k
-  unfolding readings
-  same-readings i zero j = refl
-  same-readings i (suc k) j =
-      ap₂ (λ (o : List Outputs) (l : List (Option ℕ)). reading (network-in ws) i (tables (suc j)) o ∷ l) (all-back (lists (suc j))) (same-readings i k (suc j))
-
-pub demand-3-records : Demand3Records
-demand-3-records ws i tables lists verdicts K there compares out alone on off j =
+pub demand-3-scans : Demand3Scans
+demand-3-scans ws t left times outputs pointers numbers marks answer s ok i S j l =
     let net : Network = network-in ws in
-    subst (Round (source-found net i (tables j)) (matrix-found net i (tables j)) (block-of net i .n))
-    (same-readings ws tables lists verdicts K i (round-length (source-found net i (tables j)) (matrix-found net i (tables j)) (block-of net i .n)) j)
-    (demand-3-calls ws i tables (packs ws tables lists verdicts K) verdicts (in-numbers ws tables lists verdicts K) there compares out alone on off j)
+    let h : scans-verdict ws (length t) times (length outputs) (length pointers) .number ≡ 0 = sym (ap (λ (v : Verdict). v .number) (s .answers)) ∙ ok in
+    let G : GoodNetwork net = accepted-good ws (scans-checks ws t times (length outputs) (length pointers) h) in
+    as-read (record { accepted = G; right-size = λ k u. scans-exact net G k t (scans-exact-table ws t times (length outputs) (length pointers) h) }) S
+    (entry-read net i numbers marks)
+    (entry-reads net t times i numbers marks _ _ G (S .there) (S .compares)
+    (s .leaves-other ∙ done-packed ws t outputs times (length pointers) h) (s .leaves-last ∙ done-pointed ws t pointers times (length outputs) h)) j l

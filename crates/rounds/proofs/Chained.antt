@@ -15,7 +15,8 @@ use Rattle.rules.proofs.KindFacts.{accepted-means}
 use Rattle.blocks.specs.Truths.{Runs}
 use Rattle.inputs.specs.Input.{power-on}
 use Rattle.scan.specs.Scan.{State, step, steps, scanned}
-use Rattle.rounds.specs.Demand3.{visit, power-at, register-index, after-step, coils-outside, block-outside, all-outside, Chain, ChainIsStretch}
+use Rattle.rounds.specs.Demand3.{visit, power-at, register-index, register-in, after-step, done-by}
+use Rattle.rounds.specs.Tests.{coils-outside, block-outside, all-outside, Chain, ChainIsSteady, ChainKeepsPointer}
 use Rattle.scan.proofs.Kept.{exact-after, scanned-exact}
 use Rattle.scan.proofs.Scanning.{after, after-next, after-all}
 use Rattle.rounds.proofs.Apart.{Keeps, keeps-same, keeps-on, both-true, lie-apart, block-keeps, own-keeps}
@@ -83,14 +84,14 @@ module _ {net : Network} {i m : ℕ} {given : ℕ → List ℕ} (C : Chain net i
         keeps-on (after-it r (omega arith))
         (subst (λ (k : ℕ). Keeps net i (after net t (suc i + r) .table) (after net t k .table)) n (one-keeps (suc i + r) (omega arith) (λ e. omega arith)))
 
-    pub own-coils : Keeps net i (after-step net i t) (after net t (suc i) .table)
+    own-coils : Keeps net i (after-step net i t) (after net t (suc i) .table)
     unfolding after step
     own-coils =
         subst (λ (s : State). Keeps net i (after-step net i t) (s .table)) (sym (after-next net t i (C .there)))
         (own-keeps net i i (visit net i t .table) (runs i (C .there)) (power-at net i t) held (C .compares) own-outside)
 
     -- from its own pointer step to the scan's end
-    pub to-the-end : Keeps net i (after-step net i t) (scanned net t .table)
+    to-the-end : Keeps net i (after-step net i t) (scanned net t .table)
     to-the-end =
         let n : suc i + (block-count net - suc i) ≡ block-count net = omega (arith, C .there) in
         keeps-on own-coils
@@ -101,28 +102,41 @@ module _ {net : Network} {i m : ℕ} {given : ℕ → List ℕ} (C : Chain net i
     scanned-long = scanned-exact net t (C .accepted) long
 
   -- ---- from scan to scan
-  pub sizes-stay : (j : ℕ) → length (given j) ≡ total (net .sizes)
-  sizes-stay zero = C .first-size
-  sizes-stay (suc j) = ap length (C .goes-on j) ∙ scanned-long (given j) (sizes-stay j)
+  sizes-stay : (j : ℕ) → j < m → length (given j) ≡ total (net .sizes)
+  sizes-stay zero l = C .first-size
+  sizes-stay (suc j) l = ap length (C .goes-on j l) ∙ scanned-long (given j) (sizes-stay j (omega arith))
 
-  to-the-next : (j : ℕ) → Keeps net i (after-step net i (given j)) (visit net i (given (suc j)) .table)
+  to-the-next : (j : ℕ) → suc j < m → Keeps net i (after-step net i (given j)) (visit net i (given (suc j)) .table)
   unfolding after
-  to-the-next j =
-      keeps-on (to-the-end (given j) (sizes-stay j))
-      (subst (λ (t : List ℕ). Keeps net i t (visit net i (given (suc j)) .table)) (C .goes-on j) (before-it (given (suc j)) (sizes-stay (suc j)) i (omega arith)))
+  to-the-next j l =
+      keeps-on (to-the-end (given j) (sizes-stay j (omega arith)))
+      (subst (λ (t : List ℕ). Keeps net i t (visit net i (given (suc j)) .table)) (C .goes-on j l) (before-it (given (suc j)) (sizes-stay (suc j) l) i (omega arith)))
 
-pub chain-is-stretch : ChainIsStretch
-chain-is-stretch net i m given C = record {
-  accepted = C .accepted;
-  there = C .there;
-  compares = C .compares;
-  right-size = λ j l. sizes-stay C j;
-  powered = C .powered;
-  not-reset = C .not-reset;
-  source-leaves-out = ⊎-elim (λ l. inr (omega arith)) (λ l. inl (omega arith)) (lie-apart _ _ (register-index net i) 1 (C .source-leaves-out));
-  nothing-else = record {
-    source-stays = λ j l. to-the-next C j .source-kept;
-    matrix-stays = λ j l. to-the-next C j .matrix-kept;
-    pointer-stays = λ j l. to-the-next C j .pointer-kept;
-  };
-}
+  -- the pointer at the scan's end is the one that the block left
+  pointer-at-end : (j : ℕ) → j < m → register-in net i (scanned net (given j) .table) ≡ register-in net i (done-by net i (given j))
+  unfolding after step
+  pointer-at-end j l =
+      let long : length (given j) ≡ total (net .sizes) = sizes-stay j l in
+      to-the-end (given j) long .pointer-kept
+      ∙ sym (own-coils (given j) long .pointer-kept)
+      ∙ ap (λ (s : State). register-in net i (s .table)) (after-next net (given j) i (C .there))
+
+pub chain-is-steady : ChainIsSteady
+chain-is-steady net i m given C = (
+  record { accepted = C .accepted; right-size = sizes-stay C },
+  record {
+    there = C .there;
+    compares = C .compares;
+    powered = C .powered;
+    not-reset = C .not-reset;
+    source-leaves-out = ⊎-elim (λ l. inr (omega arith)) (λ l. inl (omega arith)) (lie-apart _ _ (register-index net i) 1 (C .source-leaves-out));
+    nothing-else = record {
+      source-stays = λ j l. to-the-next C j l .source-kept;
+      matrix-stays = λ j l. to-the-next C j l .matrix-kept;
+      pointer-stays = λ j l. to-the-next C j l .pointer-kept;
+    };
+  },
+)
+
+pub chain-keeps-pointer : ChainKeepsPointer
+chain-keeps-pointer net i m given C j l = pointer-at-end C j l

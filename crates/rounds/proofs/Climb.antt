@@ -1,7 +1,7 @@
 -- The round of a search that starts again at the end, over any predicate and any number of positions: from any pointer, it reports
 -- the higher positions climbing, none if the last position is off, then the lower ones from the lowest on. Assumes nothing.
 use mathlib.Core.Path.{_≡_, refl, sym, ap, ap₂, _∙_, subst}
-use mathlib.Core.Bool.{Bool, true, false, cond, false≢true}
+use mathlib.Core.Bool.{Bool, true, false, cond, xor, false≢true}
 use mathlib.Core.List.{List, [], _∷_, _++_, map, map-append, append-assoc, append-nil}
 use mathlib.Core.Logic.{⊎-elim}
 use mathlib.Core.Option.{Option, none, some}
@@ -11,8 +11,9 @@ use borrow.Author.Tests.{ltb-true, ltb-false, lt-ltb, le-ltb, eqb-true, eq-eqb, 
 use lib.Dec.{eqb, ltb}
 use lib.ListN.{length, take, length-append, length-map}
 use lib.Seq.{take-append-seam}
+use Rattle.bits.specs.Bit.{bit}
 use Rattle.search.specs.Search.{first, differing}
-use Rattle.rounds.specs.Demand3.{above, spare, round-length, nothing, how-often, nones, Ascending, Round}
+use Rattle.rounds.specs.Demand3.{above, difference-count, round-length, nothing, how-often, nones, Ascending, Round, RoundMeans}
 
 -- ---- the first position above a start, and those after it
 data Look (f : ℕ → Bool) (i k : ℕ) : Type 0 where
@@ -86,6 +87,17 @@ module _ (f : ℕ → Bool) (N : ℕ) where
       go : (a : Bool) → ltb q N ≡ a → cond a q 0 < N
       go true e = ltb-true q N e
       go false e = omega arith
+
+  -- the pointer afterwards is one of the positions
+  pub ends-low : 1 ≤ N → (q : ℕ) → ends (found q) ≤ N
+  ends-low low q = go (look f (N - from q) (from q))
+    where
+      below : from q < N
+      below = from-below low q
+
+      go : Look f (from q) (N - from q) → ends (found q) ≤ N
+      go (nowhere a b) = subst (λ (o : Option ℕ). ends o ≤ N) (sym a) (omega arith)
+      go (at p a l u t b) = subst (λ (o : Option ℕ). ends o ≤ N) (sym a) (omega (arith, u, below))
 
   -- a search depends on where it starts alone
   same-start : (q r : ℕ) → from q ≡ from r → (m : ℕ) → run q m ≡ run r m
@@ -350,21 +362,61 @@ ascends f (suc k) i = go (f (suc i)) (ascends f k (suc i)) (look f k (suc i))
     go true h (nowhere a b) = subst (λ (l : List ℕ). Ascending (suc i ∷ l)) (sym b) tt
     go true h (at p a lo hi t b) = subst (λ (l : List ℕ). Ascending (suc i ∷ l)) (sym b) (lo, subst Ascending b h)
 
--- ---- the reports of a compare of two matrices, from any pointer
-pub a-round : (a b : List ℕ) (n q : ℕ) → 1 ≤ n → Round a b n (run (differing a b) (16 * n) q (round-length a b n))
-a-round a b n q low = record {
-  once = λ p l u t. count p ∙ once-inside f p N 0 (omega (arith, l)) (omega (arith, u)) ∙ ap (λ (x : Bool). cond x 1 0) t;
-  no-other = λ p l u t. count p ∙ once-inside f p N 0 (omega (arith, l)) (omega (arith, u)) ∙ ap (λ (x : Bool). cond x 1 0) t;
+-- ---- a round's length: d, and one more where the last position agrees
+module _ (a b : List ℕ) (n : ℕ) where
+  by-last : (x : Bool) → cond x (difference-count a b n) (difference-count a b n + 1) ≡ difference-count a b n + cond x 0 1
+  by-last true = omega arith
+  by-last false = refl
+
+  length-is : round-length a b n ≡ difference-count a b n + spared (differing a b) (16 * n)
+  length-is = by-last (differing a b (16 * n))
+
+  spare-is : round-length a b n - difference-count a b n ≡ spared (differing a b) (16 * n)
+  spare-is = omega (arith, length-is)
+
+-- it is one scan at least: where the last position differs, that is a difference
+pub round-some : (a b : List ℕ) (n : ℕ) → 1 ≤ round-length a b n
+unfolding bit above xor
+round-some a b zero =
+    let none : differing a b (16 * 0) ≡ false = refl in
+    subst (λ (x : Bool). 1 ≤ cond x (difference-count a b 0) (difference-count a b 0 + 1)) (sym none) (omega arith)
+round-some a b (suc n) = go (differing a b (16 * suc n)) refl
+  where
+    f : ℕ → Bool
+    f = differing a b
+
+    before : ℕ
+    before = 16 * n + 15
+
+    all : above f 0 (before + 1) ≡ above f 0 before ++ above f (0 + before) 1
+    all = above-split f before 0 1
+
+    count : length (above f 0 (16 * suc n)) ≡ length (above f 0 before) + length (above f before 1)
+    count =
+        let e : 16 * suc n ≡ before + 1 = omega arith in
+        let z : 0 + before ≡ before = omega arith in
+        ap (λ (k : ℕ). length (above f 0 k)) e ∙ ap length all ∙ length-append (above f 0 before) (above f (0 + before) 1) ∙ ap (λ (k : ℕ). length (above f 0 before) + length (above f k 1)) z
+
+    last : f (16 * suc n) ≡ true → length (above f before 1) ≡ 1
+    last e =
+        let s : suc before ≡ 16 * suc n = omega arith in
+        ap (λ (x : Bool). length (cond x (suc before ∷ []) [])) (ap f s ∙ e)
+
+    go : (x : Bool) → f (16 * suc n) ≡ x → 1 ≤ cond x (length (above f 0 (16 * suc n))) (length (above f 0 (16 * suc n)) + 1)
+    go true e = omega (arith, count, last e)
+    go false e = omega arith
+
+-- ---- what a round says follows from its shape
+pub round-means : RoundMeans
+round-means a b n l r = record {
+  once = λ p low high t. count p ∙ once-inside f p N 0 (omega (arith, low)) (omega (arith, high)) ∙ ap (λ (x : Bool). cond x 1 0) t;
+  no-other = λ p low high t. count p ∙ once-inside f p N 0 (omega (arith, low)) (omega (arith, high)) ∙ ap (λ (x : Bool). cond x 1 0) t;
   none-outside = λ p h. count p ∙ ⊎-elim (λ l. never-below f p N 0 (omega (arith, l))) (λ l. never-above f p N 0 (omega (arith, l))) h;
   none-reported =
-      ap nones shape
-      ∙ nones-both (map some highs ++ nothing e) (map some lows)
-      ∙ ap₂ _+_ (nones-both (map some highs) (nothing e) ∙ ap₂ _+_ (no-nones highs) (all-nones e)) (no-nones lows)
+      ap nones (r .climbing)
+      ∙ nones-both (map some (r .higher) ++ nothing e) (map some (r .lower))
+      ∙ ap₂ _+_ (nones-both (map some (r .higher)) (nothing e) ∙ ap₂ _+_ (no-nones (r .higher)) (all-nones e)) (no-nones (r .lower))
       ∙ omega arith;
-  lower = lows;
-  higher = highs;
-  climbing = shape;
-  all = split;
   ascending = ascends f N 0;
 }
   where
@@ -375,7 +427,35 @@ a-round a b n q low = record {
     N = 16 * n
 
     e : ℕ
-    e = spare a b n
+    e = round-length a b n - difference-count a b n
+
+    count : (p : ℕ) → how-often p l ≡ how-often p (map some (above f 0 N))
+    count p =
+        ap (how-often p) (r .climbing)
+        ∙ times-both p (map some (r .higher) ++ nothing e) (map some (r .lower))
+        ∙ ap (λ (k : ℕ). k + how-often p (map some (r .lower))) (times-both p (map some (r .higher)) (nothing e) ∙ ap (λ (k : ℕ). how-often p (map some (r .higher)) + k) (no-times p e))
+        ∙ omega arith
+        ∙ sym (times-both p (map some (r .lower)) (map some (r .higher)))
+        ∙ ap (how-often p) (sym (map-append some (r .lower) (r .higher)))
+        ∙ ap (λ (l : List ℕ). how-often p (map some l)) (sym (r .all))
+
+-- ---- the reports of a compare of two matrices, from any pointer
+pub a-round : (a b : List ℕ) (n q : ℕ) → 1 ≤ n → Round a b n (run (differing a b) (16 * n) q (round-length a b n))
+a-round a b n q low = record {
+  lower = lows;
+  higher = highs;
+  all = split;
+  climbing =
+      ap (run f N q) (length-is a b n)
+      ∙ round-from f N (omega arith) q
+      ∙ ap (λ (e : ℕ). map some highs ++ nothing e ++ map some lows) (sym (spare-is a b n));
+}
+  where
+    f : ℕ → Bool
+    f = differing a b
+
+    N : ℕ
+    N = 16 * n
 
     i : ℕ
     i = from f N q
@@ -394,16 +474,3 @@ a-round a b n q low = record {
         let n : i + (N - i) ≡ N = omega (arith, inside) in
         let z : 0 + i ≡ i = omega arith in
         ap (above f 0) (sym n) ∙ above-split f i 0 (N - i) ∙ ap (λ (j : ℕ). lows ++ above f j (N - i)) z
-
-    shape : run f N q (round-length a b n) ≡ map some highs ++ nothing e ++ map some lows
-    shape = round-from f N (omega arith) q
-
-    count : (p : ℕ) → how-often p (run f N q (round-length a b n)) ≡ how-often p (map some (above f 0 N))
-    count p =
-        ap (how-often p) shape
-        ∙ times-both p (map some highs ++ nothing e) (map some lows)
-        ∙ ap (λ (k : ℕ). k + how-often p (map some lows)) (times-both p (map some highs) (nothing e) ∙ ap (λ (k : ℕ). how-often p (map some highs) + k) (no-times p e))
-        ∙ omega arith
-        ∙ sym (times-both p (map some lows) (map some highs))
-        ∙ ap (how-often p) (sym (map-append some lows highs))
-        ∙ ap (λ (l : List ℕ). how-often p (map some l)) (sym split)

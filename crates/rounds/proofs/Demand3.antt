@@ -9,7 +9,7 @@ use Prim.Native.Nat.{ℕ, zero, suc, _+_, _-_, _*_, _≤_, _<_}
 use native.Mathlib.Omega.{arith}
 use Rattle.search.specs.Search.{first, differing}
 use Rattle.network.specs.Network.{Network, block-of}
-use Rattle.rounds.specs.Demand3.{round-length, visit, register-in, source-found, matrix-found, report, Stretch, reports, Round, Demand3}
+use Rattle.rounds.specs.Demand3.{round-length, visit, register-in, source-found, matrix-found, report, Steady, Scanning, in-turn, Round, Demand3}
 use Rattle.rounds.proofs.Climb.{from, from-below, ends, run, a-round, found as finds}
 use Rattle.rounds.proofs.Visits.{some-words, visit-reports, next-pointer, next-differs}
 
@@ -23,7 +23,7 @@ first-same f g (suc k) i h =
 finds-same : (f g : ℕ → Bool) (N q : ℕ) → ((p : ℕ) → 1 ≤ p → p ≤ N → f p ≡ g p) → from f N q ≤ N → finds f N q ≡ finds g N q
 finds-same f g N q h u = first-same f g (N - from f N q) (from f N q) (λ p l v. h p (omega arith) (omega arith))
 
-module _ {net : Network} {i m : ℕ} {given : ℕ → List ℕ} (S : Stretch net i m given) (f : ℕ → Bool) where
+module _ {net : Network} {i m : ℕ} {given : ℕ → List ℕ} (R : Scanning net m given) (S : Steady net i m given) (f : ℕ → Bool) where
   N : ℕ
   N = 16 * block-of net i .n
 
@@ -37,27 +37,27 @@ module _ {net : Network} {i m : ℕ} {given : ℕ → List ℕ} (S : Stretch net
   -- a scan reports what the search finds
   one-report : (j : ℕ) → j < m → Same j → report net i (given j) ≡ finds f N (pointer j)
   unfolding N pointer Same
-  one-report j l h = visit-reports S j l ∙ finds-same (differing (source-found net i (given j)) (matrix-found net i (given j))) f N (pointer j) h (omega (arith, low))
+  one-report j l h = visit-reports R S j l ∙ finds-same (differing (source-found net i (given j)) (matrix-found net i (given j))) f N (pointer j) h (omega (arith, low))
     where
       low : from f N (pointer j) < N
-      low = from-below f N (omega (arith, some-words S)) (pointer j)
+      low = from-below f N (omega (arith, some-words R S)) (pointer j)
 
-  reports-run : (k j : ℕ) → j + k ≤ m → Same j → reports net i given j k ≡ run f N (pointer j) k
-  unfolding reports run N pointer Same
+  reports-run : (k j : ℕ) → j + k ≤ m → Same j → in-turn (λ s. report net i (given s)) j k ≡ run f N (pointer j) k
+  unfolding in-turn run N pointer Same
   reports-run zero j l h = refl
   reports-run (suc zero) j l h = ap (λ (o : Option ℕ). o ∷ []) (one-report j (omega arith) h)
   reports-run (suc (suc k)) j l h =
       let next : suc j < m = omega arith in
       let there : pointer (suc j) ≡ ends f N (finds f N (pointer j)) =
-      next-pointer S j (omega arith) next ∙ ap (ends f N) (sym (visit-reports S j (omega arith)) ∙ one-report j (omega arith) h) in
+      next-pointer R S j (omega arith) next ∙ ap (ends f N) (sym (visit-reports R S j (omega arith)) ∙ one-report j (omega arith) h) in
       ap₂ (λ (o : Option ℕ) (r : List (Option ℕ)). o ∷ r) (one-report j (omega arith) h)
-      (reports-run (suc k) (suc j) (omega arith) (λ p low high. next-differs S j (omega arith) next p low high ∙ h p low high)
+      (reports-run (suc k) (suc j) (omega arith) (λ p low high. next-differs R S j (omega arith) next p low high ∙ h p low high)
       ∙ ap (λ (q : ℕ). run f N q (suc k)) there)
 
 pub demand-3 : Demand3
 unfolding N pointer Same
-demand-3 net i m given S j l =
+demand-3 net i m given R S j l =
     let a : List ℕ = source-found net i (given j) in
     let b : List ℕ = matrix-found net i (given j) in
     let n : ℕ = block-of net i .n in
-    subst (Round a b n) (sym (reports-run S (differing a b) (round-length a b n) j l (λ p low high. refl))) (a-round a b n (register-in net i (visit net i (given j) .table)) (some-words S))
+    subst (Round a b n) (sym (reports-run R S (differing a b) (round-length a b n) j l (λ p low high. refl))) (a-round a b n (register-in net i (visit net i (given j) .table)) (some-words R S))

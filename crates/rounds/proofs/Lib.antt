@@ -1,9 +1,13 @@
--- Demand 3: the round of a search, the visits of a compare block, the theorem; what other blocks leave alone; the calls of the scan; the
--- networks that show what each premise is for.
+-- Demand 3: the round of a search, the visits of a compare block, the theorem; what other blocks leave alone; the calls of the scan; when
+-- a compare finds nothing; the networks that show what each premise is for.
 pub mod Apart
 pub mod Called
 pub mod Chained
 pub mod Climb
 pub mod Demand3
+pub mod Finding
+pub mod Marks
+pub mod Printed
+pub mod Reading
 pub mod Visits
 pub mod Witnesses

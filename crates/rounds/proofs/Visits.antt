@@ -32,10 +32,10 @@ use Rattle.blocks.proofs.Written.{coils-spare-word}
 use Rattle.inputs.specs.Input.{power-on}
 use Rattle.blocks.specs.Answer.{no-outputs}
 use Rattle.scan.specs.Scan.{State, step, scanned}
-use Rattle.rounds.specs.Demand3.{visit, power-at, source-in, matrix-in, register-index, register-in, source-found, matrix-found, after-step, done-by, report, SameBits, Stretch}
+use Rattle.rounds.specs.Demand3.{visit, power-at, source-in, matrix-in, register-index, register-in, source-found, matrix-found, after-step, done-by, report, SameBits, Steady, Scanning}
 use Rattle.scan.proofs.Kept.{exact-after}
 use Rattle.scan.proofs.Scanning.{after, after-next, after-all, outs-count}
-use Rattle.rounds.proofs.Climb.{from, ends, found as finds}
+use Rattle.rounds.proofs.Climb.{from, ends, ends-low, found as finds}
 
 -- ---- the block's own output among the scan's
 abbrev own : Network → List ℕ → ℕ → Outputs
@@ -60,7 +60,7 @@ own-after net t i (suc r) u =
     ∙ List·getD-append (after net t (suc i + r) .outs) (own net t (suc i + r) ∷ []) no-outputs i (omega (arith, outs-count net t (suc i + r) (omega arith)))
     ∙ own-after net t i r (omega arith)
 
-own-output : (net : Network) (t : List ℕ) (i : ℕ) → i < block-count net
+pub own-output : (net : Network) (t : List ℕ) (i : ℕ) → i < block-count net
     → getD (scanned net t .outs) i no-outputs ≡ block-outputs net (block-of net i) (visit net i t .table) (power-at net i t)
 unfolding after
 own-output net t i l =
@@ -87,7 +87,7 @@ module _ (t : List ℕ) (p x : ℕ) (h : p < length t) where
       ∙ sym (run-bits t s n q l u)
 
 -- ---- a visit
-module _ {net : Network} {i m : ℕ} {given : ℕ → List ℕ} (S : Stretch net i m given) where
+module _ {net : Network} {i m : ℕ} {given : ℕ → List ℕ} (R : Scanning net m given) (S : Steady net i m given) where
   b : Block
   b = block-of net i
 
@@ -99,7 +99,7 @@ module _ {net : Network} {i m : ℕ} {given : ℕ → List ℕ} (S : Stretch net
 
   good : GoodBlock (net .sizes) i b
   unfolding b
-  good = S .accepted .blocks i (S .there)
+  good = R .accepted .blocks i (S .there)
 
   facts : Compared (net .sizes) b
   unfolding b
@@ -127,7 +127,7 @@ module _ {net : Network} {i m : ℕ} {given : ℕ → List ℕ} (S : Stretch net
 
     long : length t ≡ total (net .sizes)
     unfolding t after
-    long = exact-after net (given j) (S .accepted) (S .right-size j h) i (omega (arith, S .there))
+    long = exact-after net (given j) (R .accepted) (R .right-size j h) i (omega (arith, S .there))
 
     -- the pointer stands in the table, after the coils
     pointer-inside : pw < length t
@@ -205,6 +205,11 @@ module _ {net : Network} {i m : ℕ} {given : ℕ → List ℕ} (S : Stretch net
         ≡ finds (differing (source-found net i (given j)) (matrix-found net i (given j))) (16 * block-of net i .n) (register-in net i (visit net i (given j) .table))
     unfolding b n pw t q f found-here
     visit-reports = report-is
+
+    -- the pointer when the block is done is one of its positions
+    pub done-low : register-in net i (done-by net i (given j)) ≤ 16 * block-of net i .n
+    unfolding b n pw found-here
+    done-low = subst (λ (x : ℕ). x ≤ 16 * n) (sym done-pointer) (ends-low f (16 * n) (omega (arith, facts .some)) q)
 
     -- the next visit finds the pointer where this one left it
     pub next-pointer : suc j < m

@@ -26,8 +26,10 @@ use Rattle.network.proofs.Values.{accepted-good}
 use Rattle.blocks.specs.Work.{block-outputs, block-table}
 use Rattle.inputs.specs.Input.{passes}
 use Rattle.scan.specs.Scan.{step, steps, scanned}
-use Rattle.rounds.specs.Demand3.{above, round-length, visit, source-in, matrix-in, register-in, source-found, matrix-found, after-step, SameBits, reports, how-often, nones, SourceLeavesOut, NothingElse, Premises, Round, all-outside, Chain}
-use Rattle.rounds.proofs.Chained.{chain-is-stretch}
+use Rattle.rounds.specs.Demand3.{above, visit, source-in, matrix-in, register-in, source-found, matrix-found, after-step, report, SameBits, in-turn, how-often, nones, SourceLeavesOut, NothingElse, Premises, Scanning, round-at, RoundAt}
+use Rattle.rounds.specs.Tests.{all-outside, Chain}
+use Rattle.rounds.proofs.Climb.{round-means}
+use Rattle.rounds.proofs.Chained.{chain-is-steady}
 use Rattle.rounds.proofs.Demand3.{demand-3}
 
 -- ---- a network that its words spell, and that the checker takes
@@ -79,36 +81,39 @@ bench-chain a p b m = record {
   there = omega arith;
   compares = refl;
   first-size = refl;
-  goes-on = λ j. refl;
+  goes-on = λ j l. refl;
   powered = λ j l. refl;
   not-reset = λ j l. refl;
   source-leaves-out = refl;
   others-outside = refl;
 }
 
+-- what k of its scans report, from scan j on
+abbrev reported : Network → (ℕ → List ℕ) → ℕ → ℕ → List (Option ℕ)
+reported net given j k = in-turn (λ s. report net 0 (given s)) j k
+
 -- so every round of it is one, from any pointer
-pub bench-round : (a p b j : ℕ) → let given = onward bench (a ∷ p ∷ b ∷ []) in
-    Round (source-found bench 0 (given j)) (matrix-found bench 0 (given j)) 1 (reports bench 0 given j (round-length (source-found bench 0 (given j)) (matrix-found bench 0 (given j)) 1))
+pub bench-round : (a p b j : ℕ) → let given = onward bench (a ∷ p ∷ b ∷ []) in RoundAt bench 0 given j (reported bench given j (round-at bench 0 given j))
 bench-round a p b j =
     let given : ℕ → List ℕ = onward bench (a ∷ p ∷ b ∷ []) in
-    let c : ℕ = round-length (source-found bench 0 (given j)) (matrix-found bench 0 (given j)) 1 in
-    demand-3 bench 0 (j + c) given (chain-is-stretch bench 0 (j + c) given (bench-chain a p b (j + c))) j (omega arith)
+    let m : ℕ = j + round-at bench 0 given j in
+    let met = chain-is-steady bench 0 m given (bench-chain a p b m) in
+    demand-3 bench 0 m given (met .0) (met .1) j (omega arith)
 
--- the reports of its scans
-abbrev reported : List ℕ → ℕ → List (Option ℕ)
-reported t k = reports bench 0 (onward bench t) 0 k
+abbrev first-reports : List ℕ → ℕ → List (Option ℕ)
+first-reports t k = reported bench (onward bench t) 0 k
 
 -- the example's four scans: the last bit differs, so a round is 1, 16; a last bit that agrees: 2, none; no difference: none;
 -- a pointer past the end
 pub bench-reports :
     _≡_ {A = List (List (Option ℕ))}
-    (reported (32769 ∷ 0 ∷ 0 ∷ []) 4 ∷ reported (0 ∷ 0 ∷ 0x4000 ∷ []) 4 ∷ reported (5 ∷ 9 ∷ 5 ∷ []) 2 ∷ reported (32769 ∷ 65535 ∷ 0 ∷ []) 3 ∷ [])
+    (first-reports (32769 ∷ 0 ∷ 0 ∷ []) 4 ∷ first-reports (0 ∷ 0 ∷ 0x4000 ∷ []) 4 ∷ first-reports (5 ∷ 9 ∷ 5 ∷ []) 2 ∷ first-reports (32769 ∷ 65535 ∷ 0 ∷ []) 3 ∷ [])
     ((some 1 ∷ some 16 ∷ some 1 ∷ some 16 ∷ [])
     ∷ (some 2 ∷ none ∷ some 2 ∷ none ∷ [])
     ∷ (none ∷ none ∷ [])
     ∷ (some 1 ∷ some 16 ∷ some 1 ∷ [])
     ∷ [])
-unfolding onward reports step steps passes block-table block-outputs first reset in-range start-of matrix-of value bit xor
+unfolding onward in-turn step steps passes block-table block-outputs first reset in-range start-of matrix-of value bit xor
 bench-reports = refl
 
 -- ---- what the last premises are for
@@ -134,17 +139,14 @@ abbrev own-tables : ℕ → List ℕ
 own-tables = onward own-source (0 ∷ 0 ∷ 0 ∷ [])
 
 pub source-must-leave-out :
-    Premises Unit (NothingElse own-source 0 3 own-tables) own-source 0 3 own-tables
-    × (Round (source-found own-source 0 (own-tables 1)) (matrix-found own-source 0 (own-tables 1)) 1
-    (reports own-source 0 own-tables 1 (round-length (source-found own-source 0 (own-tables 1)) (matrix-found own-source 0 (own-tables 1)) 1)) → ⊥)
-unfolding onward reports step steps passes block-table block-outputs first reset in-range start-of matrix-of value bit xor spelt
+    Scanning own-source 3 own-tables × Premises Unit (NothingElse own-source 0 3 own-tables) own-source 0 3 own-tables × (RoundAt own-source 0 own-tables 1 (reported own-source own-tables 1 (round-at own-source 0 own-tables 1)) → ⊥)
+unfolding onward in-turn step steps passes block-table block-outputs first reset in-range start-of matrix-of value bit xor spelt
     above nones
 source-must-leave-out = (
+  record { accepted = taken own-source refl; right-size = below-three (λ j. length (own-tables j) ≡ total (own-source .sizes)) refl refl refl },
   record {
-    accepted = taken own-source refl;
     there = omega arith;
     compares = refl;
-    right-size = below-three (λ j. length (own-tables j) ≡ total (own-source .sizes)) refl refl refl;
     powered = λ j l. refl;
     not-reset = λ j l. refl;
     source-leaves-out = tt;
@@ -154,7 +156,7 @@ source-must-leave-out = (
       pointer-stays = λ j l. below-two (λ j. register-in own-source 0 (visit own-source 0 (own-tables (suc j)) .table) ≡ register-in own-source 0 (after-step own-source 0 (own-tables j))) refl refl j (omega arith);
     };
   },
-  (λ r. let e : _≡_ {A = ℕ} 0 1 = r .none-reported in omega arith),
+  (λ r. let e : _≡_ {A = ℕ} 0 1 = round-means _ _ 1 _ r .none-reported in omega arith),
 )
 
 -- nothing else changes: here COMP turns the matrix over in every scan, so that bit 2 is reported, at which the two did not differ
@@ -165,23 +167,20 @@ abbrev turned-tables : ℕ → List ℕ
 turned-tables = onward turned-over (0x8001 ∷ 0 ∷ 0 ∷ [])
 
 pub nothing-else-must-change :
-    Premises (SourceLeavesOut turned-over 0) Unit turned-over 0 2 turned-tables
-    × (Round (source-found turned-over 0 (turned-tables 0)) (matrix-found turned-over 0 (turned-tables 0)) 1
-    (reports turned-over 0 turned-tables 0 (round-length (source-found turned-over 0 (turned-tables 0)) (matrix-found turned-over 0 (turned-tables 0)) 1)) → ⊥)
-unfolding onward reports step steps passes block-table block-outputs first combined reset in-range start-of matrix-of value bit xor spelt
+    Scanning turned-over 2 turned-tables × Premises (SourceLeavesOut turned-over 0) Unit turned-over 0 2 turned-tables × (RoundAt turned-over 0 turned-tables 0 (reported turned-over turned-tables 0 (round-at turned-over 0 turned-tables 0)) → ⊥)
+unfolding onward in-turn step steps passes block-table block-outputs first combined reset in-range start-of matrix-of value bit xor spelt
     above how-often
 nothing-else-must-change = (
+  record { accepted = taken turned-over refl; right-size = below-two (λ j. length (turned-tables j) ≡ total (turned-over .sizes)) refl refl },
   record {
-    accepted = taken turned-over refl;
     there = omega arith;
     compares = refl;
-    right-size = below-two (λ j. length (turned-tables j) ≡ total (turned-over .sizes)) refl refl;
     powered = λ j l. refl;
     not-reset = λ j l. refl;
     source-leaves-out = inr (omega arith);
     nothing-else = tt;
   },
-  (λ r. let e : _≡_ {A = ℕ} 1 0 = r .no-other 2 (omega arith) (omega arith) refl in omega arith),
+  (λ r. let e : _≡_ {A = ℕ} 1 0 = round-means _ _ 1 _ r .no-other 2 (omega arith) (omega arith) refl in omega arith),
 )
 
 -- the block's own coils included: a network of this block alone, whose middle coil, 00005, lies in its source, coils 1 to 16. It
@@ -193,21 +192,18 @@ abbrev coil-tables : ℕ → List ℕ
 coil-tables = onward own-coil (0x8000 ∷ 0 ∷ 0 ∷ [])
 
 pub own-coils-included :
-    Premises (SourceLeavesOut own-coil 0) Unit own-coil 0 2 coil-tables
-    × (Round (source-found own-coil 0 (coil-tables 0)) (matrix-found own-coil 0 (coil-tables 0)) 1
-    (reports own-coil 0 coil-tables 0 (round-length (source-found own-coil 0 (coil-tables 0)) (matrix-found own-coil 0 (coil-tables 0)) 1)) → ⊥)
-unfolding onward reports step steps passes block-table block-outputs first reset in-range start-of matrix-of value bit xor spelt
+    Scanning own-coil 2 coil-tables × Premises (SourceLeavesOut own-coil 0) Unit own-coil 0 2 coil-tables × (RoundAt own-coil 0 coil-tables 0 (reported own-coil coil-tables 0 (round-at own-coil 0 coil-tables 0)) → ⊥)
+unfolding onward in-turn step steps passes block-table block-outputs first reset in-range start-of matrix-of value bit xor spelt
     above nones
 own-coils-included = (
+  record { accepted = taken own-coil refl; right-size = below-two (λ j. length (coil-tables j) ≡ total (own-coil .sizes)) refl refl },
   record {
-    accepted = taken own-coil refl;
     there = omega arith;
     compares = refl;
-    right-size = below-two (λ j. length (coil-tables j) ≡ total (own-coil .sizes)) refl refl;
     powered = λ j l. refl;
     not-reset = λ j l. refl;
     source-leaves-out = inr (omega arith);
     nothing-else = tt;
   },
-  (λ r. let e : _≡_ {A = ℕ} 0 1 = r .none-reported in omega arith),
+  (λ r. let e : _≡_ {A = ℕ} 0 1 = round-means _ _ 1 _ r .none-reported in omega arith),
 )

@@ -1,2 +1,6 @@
--- What a round is, its premises and its conclusion, over scans of a network and over calls of the scan.
+-- What a round is, its premises and its conclusion; the tests that give a premise; the calls; and when a compare finds nothing.
 pub mod Demand3
+pub mod Tests
+pub mod Calls
+pub mod Bench
+pub mod Found

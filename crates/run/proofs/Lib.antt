@@ -2,5 +2,6 @@
 pub mod Determined
 pub mod Kept
 pub mod Outcomes
+pub mod Paging
 pub mod Printing
 pub mod Running

@@ -4,7 +4,7 @@ use mathlib.Core.Path.{_≡_, refl}
 use mathlib.Core.Bool.{xor}
 use mathlib.Core.List.{List, [], _∷_, _++_}
 use Prim.Native.Nat.{ℕ}
-use lib.ListN.{replicate}
+use lib.ListN.{length, replicate}
 use Rattle.bits.specs.Bit.{bit, value, matrix}
 use Rattle.matrix.specs.Logic.{combined}
 use Rattle.search.specs.Search.{first}
@@ -26,7 +26,8 @@ use Rattle.scan.specs.Scan.{step, steps}
 use Rattle.scan.specs.Scans.{pointer-of, pointers-after, scans-table}
 use Rattle.run.specs.declared.Went.{Went}
 use Rattle.lines.specs.Text.{places, digits, decimal, pointer-field, line, head-line, end-line}
-use Rattle.run.specs.Run.{scan-lines, scans-lines, at-once, run-verdict, run-lines, went, run-went, run-table, run-text}
+use Rattle.run.specs.Bench.{scan-lines, scans-lines}
+use Rattle.run.specs.Page.{at-once, run-verdict, run-lines, went, run-went, run-table, run-text}
 
 abbrev Outcome : Type 0
 Outcome = Went × List ℕ × List ℕ
@@ -36,7 +37,7 @@ unfolding run-went run-table run-text run-verdict run-lines at-once scans-lines 
     file-in file-checked whole judged-from earned meaning section-earns image-section run-section areas-section sizes-faults blocks-section records-earn records-in block-faults seek faults reference-fault rule allows block-in
     scans-table pointers-after pointer-of kind-of step steps passes block-table block-outputs
     combined first moved reset in-range advanced start-of matrix value bit xor
-does ws t from text = (run-went ws t from text, run-table ws t from text, run-text ws t from text)
+does ws t from text = (run-went ws t from (length text), run-table ws t from (length text), run-text ws t from text)
 
 -- document 01's file, and its image
 abbrev bench : List ℕ

@@ -18,7 +18,7 @@ use Rattle.scan.proofs.Packing.{packed-at, unpack-pack}
 use Rattle.scan.proofs.Repeating.{next-room, one-count, outputs-count, pointers-count}
 use Rattle.scan.proofs.Scanning.{all-marks-count}
 use Rattle.lines.specs.Text.{pointer-field, line, longest-line}
-use Rattle.run.specs.Run.{scan-lines, scans-lines}
+use Rattle.run.specs.Bench.{scan-lines, scans-lines}
 use Rattle.lines.specs.Inner.{Put}
 use Rattle.run.specs.Inner.{entry-lines, entries}
 use Rattle.lines.proofs.Putting.{put-then, put-as}
@@ -56,7 +56,7 @@ module _ (net : Network) where
       let at : suc j * block-count net + i ≡ length xs + (j * block-count net + i) = omega (arith, e, suc-mul j (block-count net)) in
       ap (λ (k : ℕ). getD (xs ++ ys) k 0) at ∙ getD-append-add xs ys (j * block-count net + i) 0
 
-  output-entry : (j m i : ℕ) (t : List ℕ) → j < m → i < block-count net
+  pub output-entry : (j m i : ℕ) (t : List ℕ) → j < m → i < block-count net
       → getD (scans-outputs net t m) (j * block-count net + i) 0 ≡ packed (getD (scanned net (scans-table net t j) .outs) i no-outputs)
   unfolding scans-outputs scans-table
   output-entry j zero i t l u = absurd (omega arith)
@@ -69,7 +69,7 @@ module _ (net : Network) where
       past (map packed (scanned net t .outs)) (scans-outputs net (scanned net t .table) m) j i (one-count net t)
       ∙ output-entry j m i (scanned net t .table) (omega arith) u
 
-  pointer-entry : (j m i : ℕ) (t : List ℕ) → j < m → i < block-count net
+  pub pointer-entry : (j m i : ℕ) (t : List ℕ) → j < m → i < block-count net
       → getD (scans-pointers net t m) (j * block-count net + i) 0 ≡ getD (scan-pointers net (scans-table net t j)) i 0
   unfolding scans-pointers scans-table
   pointer-entry j zero i t l u = absurd (omega arith)

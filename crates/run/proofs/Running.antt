@@ -29,7 +29,8 @@ use Rattle.scan.specs.Scans.{scans-table, scans-outputs, scans-pointers, scans-
 use Rattle.scan.proofs.Verdicts.{repeats}
 use Rattle.run.specs.declared.Went.{Went}
 use Rattle.lines.specs.Text.{first-line, last-line, longest-line, place-after, laid}
-use Rattle.run.specs.Run.{most-at-once, ends, most-lines, at-once, many, scans-lines, run-verdict, run-lines, went, run-went, run-table, run-text}
+use Rattle.run.specs.Bench.{scans-lines}
+use Rattle.run.specs.Page.{most-at-once, ends, most-lines, at-once, many, page, run-verdict, run-lines, went, run-went, run-table, run-text}
 use Rattle.lines.specs.Inner.{Put}
 use Rattle.run.specs.Inner.{entries, AllFit, Taken, Done}
 use Rattle.lines.proofs.Putting.{put-long, put-then, put-front}
@@ -70,13 +71,13 @@ module _ (count room left : ℕ) where
       sym (simp (le-ltb room ends l, ne-eqb count 0 e, le-ltb (most-lines room / count) left (subst (λ (n : ℕ). left ≤ n / count) q u)))
 
   -- those that are run are left, and their lines fit into the lists and into the buffer
-  record Fitting (m : ℕ) : Type 0 where
-    enough : ends ≤ room
-    few : m ≤ left
-    lines : m * count ≤ most-at-once
-    bytes : ends + longest-line * (m * count) ≤ room
+  pub record Fitting (m : ℕ) : Type 0 where
+    pub enough : ends ≤ room
+    pub few : m ≤ left
+    pub lines : m * count ≤ most-at-once
+    pub bytes : ends + longest-line * (m * count) ≤ room
 
-  most-lines-fit : ends ≤ room → (most-lines room ≤ most-at-once) × (ends + longest-line * most-lines room ≤ room)
+  pub most-lines-fit : ends ≤ room → (most-lines room ≤ most-at-once) × (ends + longest-line * most-lines room ≤ room)
   most-lines-fit l = elim (decLt most-at-once ((room - ends) / longest-line)) [
     | yes h ↦ let e : most-lines room ≡ most-at-once = simp (lt-ltb most-at-once ((room - ends) / longest-line) h) in (omega (arith, e), omega (arith, e))
     | no h ↦
@@ -88,7 +89,7 @@ module _ (count room left : ℕ) where
   fitting-at : ends ≤ room → (m : ℕ) → m ≤ left → m * count ≤ most-lines room → Fitting m
   fitting-at l m u v = record { enough = l; few = u; lines = omega (arith, most-lines-fit l .0); bytes = omega (arith, most-lines-fit l .1) }
 
-  fitting : 1 ≤ at-once count room left → Fitting (at-once count room left)
+  pub fitting : 1 ≤ at-once count room left → Fitting (at-once count room left)
   fitting s = elim (decLt room ends) [
     | yes h ↦ absurd (omega (arith, at-once-short h))
     | no h ↦
@@ -212,12 +213,12 @@ module _ {ws : List ℕ} {f : OpenedFile} {t : List ℕ} {from m : ℕ} {text : 
   end-put {at} {next} {then} l = laid-put at (last-line (from + m) (f .scans)) then l (last-few (from + m) (f .scans))
 
   module _ (outputs₀ pointers₀ : List ℕ) {table outputs pointers : List ℕ} {r : Verdict} (a : length outputs₀ ≡ most-at-once) (b : length pointers₀ ≡ most-at-once)
-      (s : LeavesThree (scans-verdict front t m outputs₀ pointers₀) (scans-left front t m outputs₀ pointers₀) (scans-packed front t m outputs₀ pointers₀) (scans-pointed front t m outputs₀ pointers₀)
+      (s : LeavesThree (scans-verdict front (length t) m (length outputs₀) (length pointers₀)) (scans-left front t m (length outputs₀) (length pointers₀)) (scans-packed front t m outputs₀ (length pointers₀)) (scans-pointed front t m (length outputs₀) pointers₀)
       r table outputs pointers) where
     abbrev net : Network
     net = network-in front
 
-    scanned-so : LeavesThree (scans-verdict front t m outputs₀ pointers₀) (scans-left front t m outputs₀ pointers₀) (scans-packed front t m outputs₀ pointers₀) (scans-pointed front t m outputs₀ pointers₀)
+    scanned-so : LeavesThree (scans-verdict front (length t) m (length outputs₀) (length pointers₀)) (scans-left front t m (length outputs₀) (length pointers₀)) (scans-packed front t m outputs₀ (length pointers₀)) (scans-pointed front t m (length outputs₀) pointers₀)
         done (scans-table net t m) (scans-outputs net t m ++ drop (m * block-count net) outputs₀) (scans-pointers net t m ++ drop (m * block-count net) pointers₀)
     scanned-so =
         repeats front t m outputs₀ pointers₀ opens fine-front front-total (omega (arith, same-count, fits .lines, a)) (omega (arith, same-count, fits .lines, b))
@@ -246,30 +247,31 @@ module _ {ws : List ℕ} {f : OpenedFile} {t : List ℕ} {from m : ℕ} {text : 
           text-after = all .1 ∙ ap (λ (l : List ℕ). l ++ drop (length l) text) same;
         }
 
+-- ---- the verdict by its tests
+pub by-tests : (ws : List ℕ) (size from room : ℕ) (fine long low high some : Bool) → eqb (file-checked ws false .number) 0 ≡ fine → eqb size (table-words (file-in ws)) ≡ long → leb 1 from ≡ low → leb from (file-in ws .run) ≡ high
+    → leb 1 (many (file-in ws) from room) ≡ some → run-verdict ws size from room ≡ cond fine (cond (long && (low && (high && some))) done (verdict 12 0)) (file-checked ws false)
+unfolding run-verdict
+by-tests ws size from room fine long low high some a b c d e i = cond (a i) (cond (b i && (c i && (d i && e i))) done (verdict 12 0)) (file-checked ws false)
+
 -- ---- the answer
 module _ (ws t : List ℕ) (from : ℕ) (text : List ℕ) where
   abbrev Answers : Went → List ℕ → List ℕ → Type 0
-  Answers r table after = LeavesTwo (run-went ws t from text) (run-table ws t from text) (run-text ws t from text) r table after
+  Answers r table after = LeavesTwo (run-went ws t from (length text)) (run-table ws t from (length text)) (run-text ws t from text) r table after
 
-  tests : (fine long low high some : Bool) → eqb (file-checked ws false .number) 0 ≡ fine → eqb (length t) (table-words (file-in ws)) ≡ long → leb 1 from ≡ low → leb from (file-in ws .run) ≡ high
-      → leb 1 (many (file-in ws) from text) ≡ some → run-verdict ws t from text ≡ cond fine (cond (long && (low && (high && some))) done (verdict 12 0)) (file-checked ws false)
-  unfolding run-verdict
-  tests fine long low high some a b c d e i = cond (a i) (cond (b i && (c i && (d i && e i))) done (verdict 12 0)) (file-checked ws false)
-
-  refused : (v : Verdict) → run-verdict ws t from text ≡ v → (v .number ≡ 0 → ⊥) → Answers (went v from 0) t text
+  refused : (v : Verdict) → run-verdict ws (length t) from (length text) ≡ v → (v .number ≡ 0 → ⊥) → Answers (went v from 0) t text
   unfolding run-went run-table run-text
   refused v e h =
-      let no = ne-eqb (run-verdict ws t from text .number) 0 (λ q. h (sym (ap (λ (x : Verdict). x .number) e) ∙ q)) in
+      let no = ne-eqb (run-verdict ws (length t) from (length text) .number) 0 (λ q. h (sym (ap (λ (x : Verdict). x .number) e) ∙ q)) in
       record {
         answers =
             sym
-            (ap (λ (a : Bool). cond a (went done (from + many (file-in ws) from text) (length (run-lines (file-in ws) t from (many (file-in ws) from text)))) (went (run-verdict ws t from text) from 0)) no
+            (ap (λ (a : Bool). cond a (went done (from + many (file-in ws) from (length text)) (length (page ws t from (length text)))) (went (run-verdict ws (length t) from (length text)) from 0)) no
             ∙ ap (λ (x : Verdict). went x from 0) e);
-        leaves-one = sym (ap (λ (a : Bool). cond a (scans-table (file-in ws .network) t (many (file-in ws) from text)) t) no);
-        leaves-other = sym (ap (λ (a : Bool). cond a (run-lines (file-in ws) t from (many (file-in ws) from text) ++ drop (length (run-lines (file-in ws) t from (many (file-in ws) from text))) text) text) no);
+        leaves-one = sym (ap (λ (a : Bool). cond a (scans-table (file-in ws .network) t (many (file-in ws) from (length text))) t) no);
+        leaves-other = sym (ap (λ (a : Bool). cond a (page ws t from (length text) ++ drop (length (page ws t from (length text))) text) text) no);
       }
 
-  short : run-verdict ws t from text ≡ verdict 12 0 → Answers (went (verdict 12 0) from 0) t text
+  short : run-verdict ws (length t) from (length text) ≡ verdict 12 0 → Answers (went (verdict 12 0) from 0) t text
   short e = refused (verdict 12 0) e (λ q. omega arith)
 
   module _ {f : OpenedFile} (j : f ≡ opened-file ws false) where
@@ -278,7 +280,7 @@ module _ (ws t : List ℕ) (from : ℕ) (text : List ℕ) where
 
     pub bad-file : (f .verdict .number ≡ 0 → ⊥) → Answers (went (f .verdict) from 0) t text
     bad-file h =
-        refused (f .verdict) (tests false _ _ _ _ (ne-eqb (file-checked ws false .number) 0 (by-file h)) refl refl refl refl ∙ ap (λ (x : OpenedFile). x .verdict) (sym j)) h
+        refused (f .verdict) (by-tests ws (length t) from (length text) false _ _ _ _ (ne-eqb (file-checked ws false .number) 0 (by-file h)) refl refl refl refl ∙ ap (λ (x : OpenedFile). x .verdict) (sym j)) h
 
     module _ (ok : f .verdict .number ≡ 0) where
       fine : eqb (file-checked ws false .number) 0 ≡ true
@@ -295,24 +297,24 @@ module _ (ws t : List ℕ) (from : ℕ) (text : List ℕ) where
       same-scans = ap (λ (x : OpenedFile). x .scans) j
 
       pub bad-table : (length t ≡ f .words → ⊥) → Answers (went (verdict 12 0) from 0) t text
-      bad-table h = short (tests true false _ _ _ fine (ne-eqb (length t) (table-words (file-in ws)) (λ q. h (q ∙ sym same-words))) refl refl refl)
+      bad-table h = short (by-tests ws (length t) from (length text) true false _ _ _ fine (ne-eqb (length t) (table-words (file-in ws)) (λ q. h (q ∙ sym same-words))) refl refl refl)
 
       module _ (exact : length t ≡ f .words) where
         long : eqb (length t) (table-words (file-in ws)) ≡ true
         long = eq-eqb (length t) (table-words (file-in ws)) (exact ∙ same-words)
 
         pub bad-low : from < 1 → Answers (went (verdict 12 0) from 0) t text
-        bad-low h = short (tests true true false _ _ fine long (lt-leb 1 from h) refl refl)
+        bad-low h = short (by-tests ws (length t) from (length text) true true false _ _ fine long (lt-leb 1 from h) refl refl)
 
         module _ (low : 1 ≤ from) where
           pub bad-high : f .scans < from → Answers (went (verdict 12 0) from 0) t text
-          bad-high h = short (tests true true true false _ fine long (le-leb 1 from low) (lt-leb from (file-in ws .run) (subst (λ (k : ℕ). k < from) same-scans h)) refl)
+          bad-high h = short (by-tests ws (length t) from (length text) true true true false _ fine long (le-leb 1 from low) (lt-leb from (file-in ws .run) (subst (λ (k : ℕ). k < from) same-scans h)) refl)
 
           module _ (high : from ≤ f .scans) {m : ℕ} (so-many : m ≡ at-once (f .network .count) (length text) (f .scans + 1 - from)) where
             in-file : from ≤ file-in ws .run
             in-file = subst (λ (k : ℕ). from ≤ k) same-scans high
 
-            as-many : m ≡ many (file-in ws) from text
+            as-many : m ≡ many (file-in ws) from (length text)
             as-many =
                 so-many
                 ∙ ap (λ (x : OpenedFile). at-once (x .network .count) (length text) (x .scans + 1 - from)) j
@@ -320,31 +322,31 @@ module _ (ws t : List ℕ) (from : ℕ) (text : List ℕ) where
 
             pub bad-room : m < 1 → Answers (went (verdict 12 0) from 0) t text
             bad-room h =
-                short (tests true true true true false fine long (le-leb 1 from low) (le-leb from (file-in ws .run) in-file) (lt-leb 1 (many (file-in ws) from text) (subst (λ (k : ℕ). k < 1) as-many h)))
+                short (by-tests ws (length t) from (length text) true true true true false fine long (le-leb 1 from low) (le-leb from (file-in ws .run) in-file) (lt-leb 1 (many (file-in ws) from (length text)) (subst (λ (k : ℕ). k < 1) as-many h)))
 
             module _ (some : 1 ≤ m) where
               pub is-taken : Taken ws f t from m text
               is-taken = record { judged = j; accepted = ok; exact = exact ∙ same-words; from-low = low; from-high = in-file; so-many = as-many; some = some }
 
-              accepted : run-verdict ws t from text ≡ done
-              accepted = tests true true true true true fine long (le-leb 1 from low) (le-leb from (file-in ws .run) in-file) (le-leb 1 (many (file-in ws) from text) (subst (λ (k : ℕ). 1 ≤ k) as-many some))
+              accepted : run-verdict ws (length t) from (length text) ≡ done
+              accepted = by-tests ws (length t) from (length text) true true true true true fine long (le-leb 1 from low) (le-leb from (file-in ws .run) in-file) (le-leb 1 (many (file-in ws) from (length text)) (subst (λ (k : ℕ). 1 ≤ k) as-many some))
 
               pub answered : {bytes : ℕ} {table after : List ℕ} → Done ws t from m text bytes table after → Answers (went (f .verdict) (from + m) bytes) table after
               unfolding run-went run-table run-text
               answered {bytes} {table} {after} d =
                   let yes = ap (λ (x : Verdict). eqb (x .number) 0) accepted in
                   let judged : f .verdict ≡ done = ap (λ (x : OpenedFile). x .verdict) j ∙ accepted-done ws false (ap (λ (x : OpenedFile). x .verdict .number) (sym j) ∙ ok) in
-                  let bytes-are : bytes ≡ length (run-lines (file-in ws) t from (many (file-in ws) from text)) = d .counted ∙ ap (λ (k : ℕ). length (run-lines (file-in ws) t from k)) as-many in
+                  let bytes-are : bytes ≡ length (page ws t from (length text)) = d .counted ∙ ap (λ (k : ℕ). length (run-lines (file-in ws) t from k)) as-many in
                   record {
                     answers =
                         (λ i. went (judged i) (from + as-many i) (bytes-are i))
-                        ∙ sym (ap (λ (a : Bool). cond a (went done (from + many (file-in ws) from text) (length (run-lines (file-in ws) t from (many (file-in ws) from text)))) (went (run-verdict ws t from text) from 0)) yes);
+                        ∙ sym (ap (λ (a : Bool). cond a (went done (from + many (file-in ws) from (length text)) (length (page ws t from (length text)))) (went (run-verdict ws (length t) from (length text)) from 0)) yes);
                     leaves-one =
                         d .table-after
                         ∙ ap (scans-table (file-in ws .network) t) as-many
-                        ∙ sym (ap (λ (a : Bool). cond a (scans-table (file-in ws .network) t (many (file-in ws) from text)) t) yes);
+                        ∙ sym (ap (λ (a : Bool). cond a (scans-table (file-in ws .network) t (many (file-in ws) from (length text))) t) yes);
                     leaves-other =
                         d .text-after
                         ∙ ap (λ (k : ℕ). run-lines (file-in ws) t from k ++ drop (length (run-lines (file-in ws) t from k)) text) as-many
-                        ∙ sym (ap (λ (a : Bool). cond a (run-lines (file-in ws) t from (many (file-in ws) from text) ++ drop (length (run-lines (file-in ws) t from (many (file-in ws) from text))) text) text) yes);
+                        ∙ sym (ap (λ (a : Bool). cond a (page ws t from (length text) ++ drop (length (page ws t from (length text))) text) text) yes);
                   }

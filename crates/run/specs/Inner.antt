@@ -13,7 +13,7 @@ use Rattle.scan.specs.Scans.{scans-table}
 use Rattle.file.specs.declared.checker.OpenedFile.{OpenedFile}
 use Rattle.file.specs.File.{table-words, file-in, opened-file}
 use Rattle.lines.specs.Text.{line, pointer-field, longest-line}
-use Rattle.run.specs.Run.{many, run-lines}
+use Rattle.run.specs.Page.{many, run-lines}
 
 -- the line of the block after the first i, from entry `first + i` of the lists
 abbrev pub entry-line : Network → List ℕ → List ℕ → ℕ → ℕ → ℕ → List ℕ
@@ -55,7 +55,7 @@ pub record Taken (ws : List ℕ) (f : OpenedFile) (t : List ℕ) (from m : ℕ) 
   pub exact : length t ≡ table-words (file-in ws)
   pub from-low : 1 ≤ from
   pub from-high : from ≤ file-in ws .run
-  pub so-many : m ≡ many (file-in ws) from text
+  pub so-many : m ≡ many (file-in ws) from (length text)
   pub some : 1 ≤ m
 
 -- the table after m scans, their lines at the front of the buffer, and how many bytes they are

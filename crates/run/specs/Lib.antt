@@ -1,3 +1,5 @@
--- What the contracts of `run` cite: the lines of scans, and a call.
-pub mod Run
+-- What the contracts of `run` cite: what the bench prints, a call that puts some of it, and the calls one after the other.
+pub mod Bench
+pub mod Page
+pub mod Calls
 pub mod Inner

@@ -12,8 +12,9 @@ use lines::put_head;
 use verdict::Verdict;
 ghost use mathlib.Core.Path.{_≡_};
 ghost use Prim.Native.Nat.{_≤_};
+ghost use lib.ListN.{length};
 ghost use Rattle.verdict.specs.Promise.{LeavesTwo};
-ghost use Rattle.run.specs.Run.{ends, most-lines, at-once, run-went, run-table, run-text};
+ghost use Rattle.run.specs.Page.{ends, most-lines, at-once, run-went, run-table, run-text};
 ghost use Rattle.run.specs.Inner.{Taken, Done};
 
 // The verdict, the scan to go on from, and how many bytes were put into the buffer.
@@ -87,8 +88,8 @@ fn scan_and_print(
 pub fn run(words: &[u16], table: &mut [u16], from: u16, text: &mut [u8]) -> Went
     ensures { λ r. ⌜
         LeavesTwo
-        (run-went (now (words .entry)) (now (table .entry)) from (now (text .entry)))
-        (run-table (now (words .entry)) (now (table .entry)) from (now (text .entry)))
+        (run-went (now (words .entry)) (now (table .entry)) from (length (now (text .entry))))
+        (run-table (now (words .entry)) (now (table .entry)) from (length (now (text .entry))))
         (run-text (now (words .entry)) (now (table .entry)) from (now (text .entry)))
         r (now (table .exit)) (now (text .exit)) ⌝ }
 {

@@ -5,6 +5,7 @@ use mathlib.Core.Path.{_≡_, refl}
 use mathlib.Core.Bool.{xor}
 use mathlib.Core.List.{List, [], _∷_, flatMap}
 use Prim.Native.Nat.{ℕ}
+use lib.ListN.{length}
 use Rattle.verdict.specs.declared.Verdict.{Verdict}
 use Rattle.bits.specs.Bit.{bit, value, matrix}
 use Rattle.matrix.specs.Logic.{combined}
@@ -27,7 +28,7 @@ use Rattle.section.specs.Section.{section-earns, earned, meaning, judged-from, 
 use Rattle.network.specs.Check.{areas-section, block-faults, blocks-section, network-in, checked}
 use Rattle.blocks.specs.Work.{block-outputs, block-table}
 use Rattle.inputs.specs.Input.{passes}
-use Rattle.scan.specs.Scan.{step, steps, scan-verdict, scan-table, scan-outputs}
+use Rattle.scan.specs.Scan.{step, steps, scan-verdict, scan-table, scan-packed}
 use Rattle.scan.specs.Scans.{pointer-of, pointers-after, scans-table, scans-outputs, scans-pointers, scans-verdict, scans-left, scans-packed, scans-pointed}
 
 -- a network in a table of a word of coils, a word of discrete inputs and four holding registers
@@ -76,11 +77,11 @@ abbrev Outcome : Type 0
 Outcome = Verdict × List ℕ × List ℕ
 
 unfoldable pub scan : List ℕ → List ℕ → List ℕ → Outcome
-unfolding scan-verdict scan-table scan-outputs step steps passes block-table block-outputs
+unfolding scan-verdict scan-table scan-packed step steps passes block-table block-outputs
     combined first moved reset in-range advanced start-of matrix value bit xor
     words-of flatMap spelled network-in meaning records-in block-in
     checked whole judged-from earned section-earns records-earn areas-section sizes-faults blocks-section block-faults seek faults reference-fault rule allows
-scan ws t outputs = (scan-verdict ws t outputs, scan-table ws t outputs, scan-outputs ws t outputs)
+scan ws t outputs = (scan-verdict ws (length t) (length outputs), scan-table ws t (length outputs), scan-packed ws t outputs)
 
 -- one block in a scan with room for one output
 abbrev does : Network → List ℕ → Outcome
@@ -230,7 +231,7 @@ Outcomes = Verdict × List ℕ × List ℕ × List ℕ
 abbrev runs : Network → List ℕ → ℕ → List ℕ → List ℕ → Outcomes
 runs net t times outputs pointers =
     let ws : List ℕ = words-of net in
-    (scans-verdict ws t times outputs pointers, scans-left ws t times outputs pointers, scans-packed ws t times outputs pointers, scans-pointed ws t times outputs pointers)
+    (scans-verdict ws (length t) times (length outputs) (length pointers), scans-left ws t times (length outputs) (length pointers), scans-packed ws t times outputs (length pointers), scans-pointed ws t times (length outputs) pointers)
 
 -- the bench's example, four scans: outputs and pointers of each, and the entries after them stay; two scans of two
 -- blocks; no scan; lists that are too short for two scans; a refused network

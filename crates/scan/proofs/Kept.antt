@@ -20,11 +20,12 @@ use Rattle.network.specs.Check.{checked, network-in}
 use Rattle.network.specs.Sound.{GoodNetwork}
 use Rattle.network.proofs.Values.{accepted-good}
 use Rattle.blocks.specs.declared.Power.{Power}
+use Rattle.blocks.specs.declared.Outputs.{Outputs}
 use Rattle.blocks.specs.Truths.{Runs}
 use Rattle.blocks.proofs.Written.{same-long, inputs-stay as block-inputs-stay}
 use Rattle.inputs.specs.Input.{power-on}
 use Rattle.blocks.specs.Packed.{packed}
-use Rattle.scan.specs.Scan.{State, step, steps, scanned, scan-verdict, scan-table, scan-outputs}
+use Rattle.scan.specs.Scan.{State, step, steps, scanned, scan-verdict, scan-table, scan-records, scan-packed}
 use Rattle.scan.specs.Scans.{scans-table, scans-outputs, scans-pointers, scans-verdict, scans-left, scans-packed, scans-pointed}
 use Rattle.scan.specs.Truths.{RefusalKeeps, ScanSameLong, ScanKeepsInputs}
 use Rattle.scan.proofs.Scanning.{after, after-next, after-all}
@@ -83,90 +84,135 @@ then-second v w h = go (eqb (v .number) 0) refl h
     go true e q = q
     go false e q = absurd (eqb-false (v .number) 0 e q)
 
-module _ (ws t outputs : List ℕ) where
-  pub exact-table : scan-verdict ws t outputs .number ≡ 0 → length t ≡ total (network-in ws .sizes)
+module _ (ws t : List ℕ) (room : ℕ) where
+  pub exact-table : scan-verdict ws (length t) room .number ≡ 0 → length t ≡ total (network-in ws .sizes)
   unfolding scan-verdict
-  exact-table h = go (eqb (length t) (total (network-in ws .sizes))) refl (leb (block-count (network-in ws)) (length outputs)) (then-second (checked ws) _ h)
+  exact-table h = go (eqb (length t) (total (network-in ws .sizes))) refl (leb (block-count (network-in ws)) room) (then-second (checked ws) _ h)
     where
       go : (a : Bool) → eqb (length t) (total (network-in ws .sizes)) ≡ a → (c : Bool) → cond (a && c) done (verdict 12 0) .number ≡ 0 → length t ≡ total (network-in ws .sizes)
       go true e c q = eqb-true (length t) (total (network-in ws .sizes)) e
       go false e c q = absurd (omega arith)
 
   -- there is an entry for every block
-  pub enough : scan-verdict ws t outputs .number ≡ 0 → block-count (network-in ws) ≤ length outputs
+  pub enough : scan-verdict ws (length t) room .number ≡ 0 → block-count (network-in ws) ≤ room
   unfolding scan-verdict
-  enough h = go (eqb (length t) (total (network-in ws .sizes))) (leb (block-count (network-in ws)) (length outputs)) refl (then-second (checked ws) _ h)
+  enough h = go (eqb (length t) (total (network-in ws .sizes))) (leb (block-count (network-in ws)) room) refl (then-second (checked ws) _ h)
     where
-      go : (a c : Bool) → leb (block-count (network-in ws)) (length outputs) ≡ c → cond (a && c) done (verdict 12 0) .number ≡ 0 → block-count (network-in ws) ≤ length outputs
-      go true true e q = leb-true (block-count (network-in ws)) (length outputs) e
+      go : (a c : Bool) → leb (block-count (network-in ws)) room ≡ c → cond (a && c) done (verdict 12 0) .number ≡ 0 → block-count (network-in ws) ≤ room
+      go true true e q = leb-true (block-count (network-in ws)) room e
       go true false e q = absurd (omega arith)
       go false c e q = absurd (omega arith)
 
-  pub checks : scan-verdict ws t outputs .number ≡ 0 → checked ws .number ≡ 0
+  pub checks : scan-verdict ws (length t) room .number ≡ 0 → checked ws .number ≡ 0
   unfolding scan-verdict
   checks h = then-first (checked ws) _ h
 
-  pub accepted : scan-verdict ws t outputs .number ≡ 0 → GoodNetwork (network-in ws)
+  pub accepted : scan-verdict ws (length t) room .number ≡ 0 → GoodNetwork (network-in ws)
   accepted h = accepted-good ws (checks h)
 
-  after-scan : scan-verdict ws t outputs .number ≡ 0 → Same (network-in ws) t (scanned (network-in ws) t .table)
+  after-scan : scan-verdict ws (length t) room .number ≡ 0 → Same (network-in ws) t (scanned (network-in ws) t .table)
   after-scan h = all-kept (network-in ws) t (accepted h) (exact-table h)
 
+-- several scans
+module _ (ws t : List ℕ) (times outputs pointers : ℕ) (h : scans-verdict ws (length t) times outputs pointers .number ≡ 0) where
+  pub scans-checks : checked ws .number ≡ 0
+  unfolding scans-verdict
+  scans-checks = then-first (checked ws) _ h
+
+  pub scans-exact-table : length t ≡ total (network-in ws .sizes)
+  unfolding scans-verdict
+  scans-exact-table =
+      go (eqb (length t) (total (network-in ws .sizes))) refl (leb (times * block-count (network-in ws)) outputs && leb (times * block-count (network-in ws)) pointers) (then-second (checked ws) _ h)
+    where
+      go : (a : Bool) → eqb (length t) (total (network-in ws .sizes)) ≡ a → (c : Bool) → cond (a && c) done (verdict 12 0) .number ≡ 0 → length t ≡ total (network-in ws .sizes)
+      go true e c q = eqb-true (length t) (total (network-in ws .sizes)) e
+      go false e c q = absurd (omega arith)
+
 -- the outputs of a scan that is not refused
-pub done-outputs : (ws t outputs : List ℕ) → scan-verdict ws t outputs .number ≡ 0 → scan-outputs ws t outputs ≡ map packed (scanned (network-in ws) t .outs) ++ drop (block-count (network-in ws)) outputs
-unfolding scan-outputs
+pub done-outputs : (ws t outputs : List ℕ) → scan-verdict ws (length t) (length outputs) .number ≡ 0 → scan-packed ws t outputs ≡ map packed (scanned (network-in ws) t .outs) ++ drop (block-count (network-in ws)) outputs
+unfolding scan-packed
 done-outputs ws t outputs h =
-    ap (λ (a : Bool). cond a (map packed (scanned (network-in ws) t .outs) ++ drop (block-count (network-in ws)) outputs) outputs) (eq-eqb (scan-verdict ws t outputs .number) 0 h)
+    ap (λ (a : Bool). cond a (map packed (scanned (network-in ws) t .outs) ++ drop (block-count (network-in ws)) outputs) outputs) (eq-eqb (scan-verdict ws (length t) (length outputs) .number) 0 h)
+
+-- the records, likewise
+pub done-records : (ws t : List ℕ) (list : List Outputs) → scan-verdict ws (length t) (length list) .number ≡ 0
+    → scan-records ws t list ≡ scanned (network-in ws) t .outs ++ drop (block-count (network-in ws)) list
+unfolding scan-records
+done-records ws t list h =
+    ap (λ (a : Bool). cond a (scanned (network-in ws) t .outs ++ drop (block-count (network-in ws)) list) list) (eq-eqb (scan-verdict ws (length t) (length list) .number) 0 h)
+
+-- a refused scan
+pub table-kept : (ws t : List ℕ) (room : ℕ) → (scan-verdict ws (length t) room .number ≡ 0 → ⊥) → scan-table ws t room ≡ t
+unfolding scan-table
+table-kept ws t room h = ap (λ (a : Bool). cond a (scanned (network-in ws) t .table) t) (ne-eqb (scan-verdict ws (length t) room .number) 0 h)
+
+numbers-kept : (ws t numbers : List ℕ) → (scan-verdict ws (length t) (length numbers) .number ≡ 0 → ⊥) → scan-packed ws t numbers ≡ numbers
+unfolding scan-packed
+numbers-kept ws t numbers h =
+    ap (λ (a : Bool). cond a (map packed (scanned (network-in ws) t .outs) ++ drop (block-count (network-in ws)) numbers) numbers)
+    (ne-eqb (scan-verdict ws (length t) (length numbers) .number) 0 h)
+
+pub records-kept : (ws t : List ℕ) (list : List Outputs) → (scan-verdict ws (length t) (length list) .number ≡ 0 → ⊥) → scan-records ws t list ≡ list
+unfolding scan-records
+records-kept ws t list h =
+    ap (λ (a : Bool). cond a (scanned (network-in ws) t .outs ++ drop (block-count (network-in ws)) list) list) (ne-eqb (scan-verdict ws (length t) (length list) .number) 0 h)
 
 pub refusal-keeps : RefusalKeeps
-unfolding scan-table scan-outputs
-refusal-keeps ws t outputs h = (
-  ap (λ (a : Bool). cond a (scanned (network-in ws) t .table) t) (ne-eqb (scan-verdict ws t outputs .number) 0 h),
-  ap (λ (a : Bool). cond a (map packed (scanned (network-in ws) t .outs) ++ drop (block-count (network-in ws)) outputs) outputs) (ne-eqb (scan-verdict ws t outputs .number) 0 h),
-)
+refusal-keeps ws t numbers h = (table-kept ws t (length numbers) h, numbers-kept ws t numbers h)
 
 -- and so whatever the contract allows with a refusal for its answer
 pub packed-keeps-table : Keeps packed-reads.Post (λ κs v. v .number ≡ 0 → ⊥) (λ κs a. now (a .1 .0)) (λ κs s. now (s .1 .0))
-packed-keeps-table κs a v s p h =
-    p .leaves-one ∙ refusal-keeps _ _ _ (λ e. h (ap (λ (x : Verdict). x .number) (p .answers) ∙ e)) .0
+packed-keeps-table κs a v s p h = p .leaves-one ∙ table-kept _ _ _ (λ e. h (ap (λ (x : Verdict). x .number) (p .answers) ∙ e))
 
 pub packed-keeps-outputs : Keeps packed-reads.Post (λ κs v. v .number ≡ 0 → ⊥) (λ κs a. now (a .1 .1 .0)) (λ κs s. now (s .1 .1 .0))
-packed-keeps-outputs κs a v s p h =
-    p .leaves-other ∙ refusal-keeps _ _ _ (λ e. h (ap (λ (x : Verdict). x .number) (p .answers) ∙ e)) .1
+packed-keeps-outputs κs a v s p h = p .leaves-other ∙ numbers-kept _ _ _ (λ e. h (ap (λ (x : Verdict). x .number) (p .answers) ∙ e))
 
 pub same-long-after : ScanSameLong
 unfolding scan-table
-same-long-after ws t outputs = go (eqb (scan-verdict ws t outputs .number) 0) refl
+same-long-after ws t room = go (eqb (scan-verdict ws (length t) room .number) 0) refl
   where
-    go : (a : Bool) → eqb (scan-verdict ws t outputs .number) 0 ≡ a → length (cond a (scanned (network-in ws) t .table) t) ≡ length t
+    go : (a : Bool) → eqb (scan-verdict ws (length t) room .number) 0 ≡ a → length (cond a (scanned (network-in ws) t .table) t) ≡ length t
     go true e =
-        let h : scan-verdict ws t outputs .number ≡ 0 = eqb-true (scan-verdict ws t outputs .number) 0 e in
-        after-scan ws t outputs h .exact ∙ sym (exact-table ws t outputs h)
+        let h : scan-verdict ws (length t) room .number ≡ 0 = eqb-true (scan-verdict ws (length t) room .number) 0 e in
+        after-scan ws t room h .exact ∙ sym (exact-table ws t room h)
     go false e = refl
 
 pub inputs-stay : ScanKeepsInputs
 unfolding scan-table
-inputs-stay ws t outputs p l u = go (eqb (scan-verdict ws t outputs .number) 0) refl
+inputs-stay ws t room p l u = go (eqb (scan-verdict ws (length t) room .number) 0) refl
   where
-    go : (a : Bool) → eqb (scan-verdict ws t outputs .number) 0 ≡ a → bit (cond a (scanned (network-in ws) t .table) t) p ≡ bit t p
-    go true e = after-scan ws t outputs (eqb-true (scan-verdict ws t outputs .number) 0 e) .inputs p l u
+    go : (a : Bool) → eqb (scan-verdict ws (length t) room .number) 0 ≡ a → bit (cond a (scanned (network-in ws) t .table) t) p ≡ bit t p
+    go true e = after-scan ws t room (eqb-true (scan-verdict ws (length t) room .number) 0 e) .inputs p l u
     go false e = refl
 
+-- what several scans that are not refused leave in the lists
+pub done-packed : (ws t outputs : List ℕ) (times pointers : ℕ) → scans-verdict ws (length t) times (length outputs) pointers .number ≡ 0
+    → scans-packed ws t times outputs pointers ≡ scans-outputs (network-in ws) t times ++ drop (times * block-count (network-in ws)) outputs
+unfolding scans-packed
+done-packed ws t outputs times pointers h =
+    ap (λ (a : Bool). cond a (scans-outputs (network-in ws) t times ++ drop (times * block-count (network-in ws)) outputs) outputs) (eq-eqb (scans-verdict ws (length t) times (length outputs) pointers .number) 0 h)
+
+pub done-pointed : (ws t pointers : List ℕ) (times outputs : ℕ) → scans-verdict ws (length t) times outputs (length pointers) .number ≡ 0
+    → scans-pointed ws t times outputs pointers ≡ scans-pointers (network-in ws) t times ++ drop (times * block-count (network-in ws)) pointers
+unfolding scans-pointed
+done-pointed ws t pointers times outputs h =
+    ap (λ (a : Bool). cond a (scans-pointers (network-in ws) t times ++ drop (times * block-count (network-in ws)) pointers) pointers) (eq-eqb (scans-verdict ws (length t) times outputs (length pointers) .number) 0 h)
+
 -- ---- several scans that are refused keep everything, too
-module _ (ws t : List ℕ) (times : ℕ) (outputs pointers : List ℕ) (h : scans-verdict ws t times outputs pointers .number ≡ 0 → ⊥) where
-  none-left : scans-left ws t times outputs pointers ≡ t
+module _ (ws t : List ℕ) (times : ℕ) where
+  none-left : (outputs pointers : ℕ) → (scans-verdict ws (length t) times outputs pointers .number ≡ 0 → ⊥) → scans-left ws t times outputs pointers ≡ t
   unfolding scans-left
-  none-left = ap (λ (a : Bool). cond a (scans-table (network-in ws) t times) t) (ne-eqb (scans-verdict ws t times outputs pointers .number) 0 h)
+  none-left outputs pointers h = ap (λ (a : Bool). cond a (scans-table (network-in ws) t times) t) (ne-eqb (scans-verdict ws (length t) times outputs pointers .number) 0 h)
 
-  none-packed : scans-packed ws t times outputs pointers ≡ outputs
+  none-packed : (outputs : List ℕ) (pointers : ℕ) → (scans-verdict ws (length t) times (length outputs) pointers .number ≡ 0 → ⊥) → scans-packed ws t times outputs pointers ≡ outputs
   unfolding scans-packed
-  none-packed =
-      ap (λ (a : Bool). cond a (scans-outputs (network-in ws) t times ++ drop (times * block-count (network-in ws)) outputs) outputs) (ne-eqb (scans-verdict ws t times outputs pointers .number) 0 h)
+  none-packed outputs pointers h =
+      ap (λ (a : Bool). cond a (scans-outputs (network-in ws) t times ++ drop (times * block-count (network-in ws)) outputs) outputs) (ne-eqb (scans-verdict ws (length t) times (length outputs) pointers .number) 0 h)
 
-  none-marked : scans-pointed ws t times outputs pointers ≡ pointers
+  none-marked : (outputs : ℕ) (pointers : List ℕ) → (scans-verdict ws (length t) times outputs (length pointers) .number ≡ 0 → ⊥) → scans-pointed ws t times outputs pointers ≡ pointers
   unfolding scans-pointed
-  none-marked =
-      ap (λ (a : Bool). cond a (scans-pointers (network-in ws) t times ++ drop (times * block-count (network-in ws)) pointers) pointers) (ne-eqb (scans-verdict ws t times outputs pointers .number) 0 h)
+  none-marked outputs pointers h =
+      ap (λ (a : Bool). cond a (scans-pointers (network-in ws) t times ++ drop (times * block-count (network-in ws)) pointers) pointers) (ne-eqb (scans-verdict ws (length t) times outputs (length pointers) .number) 0 h)
 
 pub scans-keep-table : Keeps scans-reads.Post (λ κs v. v .number ≡ 0 → ⊥) (λ κs a. now (a .1 .0)) (λ κs s. now (s .1 .0))
 scans-keep-table κs a v s p h = p .leaves-one ∙ none-left _ _ _ _ _ (λ e. h (ap (λ (x : Verdict). x .number) (p .answers) ∙ e))

@@ -17,17 +17,17 @@ use Rattle.verdict.specs.Verdict.{verdict, done}
 use Rattle.network.specs.Check.{opened, checked, network-in}
 use Rattle.network.proofs.Values.{accepted-good}
 use Rattle.blocks.specs.Packed.{packed}
-use Rattle.scan.specs.Scan.{scanned, scan-verdict, scan-table, scan-outputs}
+use Rattle.scan.specs.Scan.{scanned, scan-verdict, scan-table, scan-packed}
 use Rattle.scan.specs.Scans.{scans-table, scans-outputs, scans-pointers, scans-verdict, scans-left, scans-packed, scans-pointed}
 use Rattle.scan.specs.Inner.{Repeatable, Repeated}
 use Rattle.scan.proofs.Scanning.{sizes-are, count-is}
 
 module _ (ws t : List ℕ) where
   -- the verdict by its tests
-  pub by-tests : (outputs : List ℕ) (fine long enough : Bool) → eqb (checked ws .number) 0 ≡ fine → eqb (length t) (total (network-in ws .sizes)) ≡ long → leb (block-count (network-in ws)) (length outputs) ≡ enough
-      → scan-verdict ws t outputs ≡ cond fine (cond (long && enough) done (verdict 12 0)) (checked ws)
+  pub by-tests : (room : ℕ) (fine long enough : Bool) → eqb (checked ws .number) 0 ≡ fine → eqb (length t) (total (network-in ws .sizes)) ≡ long → leb (block-count (network-in ws)) room ≡ enough
+      → scan-verdict ws (length t) room ≡ cond fine (cond (long && enough) done (verdict 12 0)) (checked ws)
   unfolding scan-verdict
-  by-tests outputs fine long enough p q r i = cond (p i) (cond (q i && r i) done (verdict 12 0)) (checked ws)
+  by-tests room fine long enough p q r i = cond (p i) (cond (q i && r i) done (verdict 12 0)) (checked ws)
 
   module _ {o : Opened} (e : o ≡ opened ws) where
     by-words : (o .verdict .number ≡ 0 → ⊥) → (checked ws .number ≡ 0 → ⊥)
@@ -46,21 +46,21 @@ and-off false = refl
 
 abbrev pub Repeats : List ℕ → List ℕ → ℕ → List ℕ → List ℕ → Verdict → List ℕ → List ℕ → List ℕ → Type 0
 Repeats ws t times outputs pointers r table packs marks =
-    LeavesThree (scans-verdict ws t times outputs pointers) (scans-left ws t times outputs pointers)
-    (scans-packed ws t times outputs pointers) (scans-pointed ws t times outputs pointers) r table packs marks
+    LeavesThree (scans-verdict ws (length t) times (length outputs) (length pointers)) (scans-left ws t times (length outputs) (length pointers))
+    (scans-packed ws t times outputs (length pointers)) (scans-pointed ws t times (length outputs) pointers) r table packs marks
 
 module _ (ws t : List ℕ) (times : ℕ) (outputs pointers : List ℕ) where
   repeat-tests : (fine long enough room : Bool) → eqb (checked ws .number) 0 ≡ fine → eqb (length t) (total (network-in ws .sizes)) ≡ long
       → leb (times * block-count (network-in ws)) (length outputs) ≡ enough → leb (times * block-count (network-in ws)) (length pointers) ≡ room
-      → scans-verdict ws t times outputs pointers ≡ cond fine (cond (long && (enough && room)) done (verdict 12 0)) (checked ws)
+      → scans-verdict ws (length t) times (length outputs) (length pointers) ≡ cond fine (cond (long && (enough && room)) done (verdict 12 0)) (checked ws)
   unfolding scans-verdict
   repeat-tests fine long enough room p q r s i = cond (p i) (cond (q i && (r i && s i)) done (verdict 12 0)) (checked ws)
 
   -- a refusal
-  repeat-refused : (v : Verdict) → scans-verdict ws t times outputs pointers ≡ v → (v .number ≡ 0 → ⊥) → Repeats ws t times outputs pointers v t outputs pointers
+  repeat-refused : (v : Verdict) → scans-verdict ws (length t) times (length outputs) (length pointers) ≡ v → (v .number ≡ 0 → ⊥) → Repeats ws t times outputs pointers v t outputs pointers
   unfolding scans-left scans-packed scans-pointed
   repeat-refused v e h =
-      let no = ne-eqb (scans-verdict ws t times outputs pointers .number) 0 (λ q. h (sym (ap (λ (x : Verdict). x .number) e) ∙ q)) in
+      let no = ne-eqb (scans-verdict ws (length t) times (length outputs) (length pointers) .number) 0 (λ q. h (sym (ap (λ (x : Verdict). x .number) e) ∙ q)) in
       record {
         answers = sym e;
         leaves-one = sym (ap (λ (a : Bool). cond a (scans-table (network-in ws) t times) t) no);
@@ -110,7 +110,7 @@ module _ (ws t : List ℕ) (times : ℕ) (outputs pointers : List ℕ) where
         pointers-room = subst (λ (n : ℕ). n ≤ length pointers) entries v;
       }
 
-      taken : scans-verdict ws t times outputs pointers ≡ done
+      taken : scans-verdict ws (length t) times (length outputs) (length pointers) ≡ done
       taken =
           repeat-tests true true true true (eq-eqb (checked ws .number) 0 (repeatable .accepted)) (eq-eqb (length t) (total (network-in ws .sizes)) (repeatable .exact))
           (le-leb (times * block-count (network-in ws)) (length outputs) (repeatable .outputs-room)) (le-leb (times * block-count (network-in ws)) (length pointers) (repeatable .pointers-room))
@@ -129,23 +129,23 @@ one-mul : (n : ℕ) → 1 * n ≡ n
 one-mul n = omega arith
 
 module _ (ws t outputs pointers : List ℕ) (most : length pointers ≡ 128) where
-  same-verdict : scans-verdict ws t 1 outputs pointers ≡ scan-verdict ws t outputs
+  same-verdict : scans-verdict ws (length t) 1 (length outputs) (length pointers) ≡ scan-verdict ws (length t) (length outputs)
   same-verdict = go (eqb (checked ws .number) 0) refl
     where
       all-room : (b : Bool) → (b && true) ≡ b
       all-room true = refl
       all-room false = refl
 
-      go : (fine : Bool) → eqb (checked ws .number) 0 ≡ fine → scans-verdict ws t 1 outputs pointers ≡ scan-verdict ws t outputs
+      go : (fine : Bool) → eqb (checked ws .number) 0 ≡ fine → scans-verdict ws (length t) 1 (length outputs) (length pointers) ≡ scan-verdict ws (length t) (length outputs)
       go true p =
           let few = accepted-good ws (eqb-true (checked ws .number) 0 p) .few in
           repeat-tests ws t 1 outputs pointers true _ _ true p refl (ap (λ (n : ℕ). leb n (length outputs)) (one-mul (block-count (network-in ws)))) (le-leb (1 * block-count (network-in ws)) (length pointers) (omega (arith, few, most)))
           ∙ ap (λ (b : Bool). cond (eqb (length t) (total (network-in ws .sizes)) && b) done (verdict 12 0)) (all-room (leb (block-count (network-in ws)) (length outputs)))
-          ∙ sym (by-tests ws t outputs true _ _ p refl refl)
-      go false p = repeat-tests ws t 1 outputs pointers false _ _ _ p refl refl refl ∙ sym (by-tests ws t outputs false _ _ p refl refl)
+          ∙ sym (by-tests ws t (length outputs) true _ _ p refl refl)
+      go false p = repeat-tests ws t 1 outputs pointers false _ _ _ p refl refl refl ∙ sym (by-tests ws t (length outputs) false _ _ p refl refl)
 
-  pub one-scan : {r : Verdict} {table packs marks : List ℕ} → Repeats ws t 1 outputs pointers r table packs marks → LeavesTwo (scan-verdict ws t outputs) (scan-table ws t outputs) (scan-outputs ws t outputs) r table packs
-  unfolding scan-table scan-outputs scans-left scans-packed scans-table scans-outputs
+  pub one-scan : {r : Verdict} {table packs marks : List ℕ} → Repeats ws t 1 outputs pointers r table packs marks → LeavesTwo (scan-verdict ws (length t) (length outputs)) (scan-table ws t (length outputs)) (scan-packed ws t outputs) r table packs
+  unfolding scan-table scan-packed scans-left scans-packed scans-table scans-outputs
   one-scan s =
       record {
         answers = s .answers ∙ same-verdict;

@@ -5,6 +5,7 @@ use mathlib.Core.Bool.{cond, _&&_}
 use mathlib.Core.List.{List, [], _∷_, _++_, map}
 use lib.Dec.{eqb, leb}
 use lib.ListN.{length, drop}
+use Rattle.verdict.specs.Lists.{Words, Table}
 use Rattle.verdict.specs.declared.Verdict.{Verdict}
 use Rattle.record.specs.declared.Block.{Block}
 use Rattle.table.specs.Table.{total}
@@ -18,11 +19,11 @@ use Rattle.inputs.specs.Input.{power-on}
 
 -- the table, and the outputs of the blocks that have run
 pub record State : Type 0 where
-  pub table : List ℕ
+  pub table : Table
   pub outs : List Outputs
 
 -- a table before the first block, when there are no outputs yet
-abbrev pub fresh : List ℕ → State
+abbrev pub fresh : Table → State
 fresh t = record { table = t; outs = [] }
 
 -- one block
@@ -38,20 +39,29 @@ steps net [] s = s
 steps net (b ∷ bs) s = steps net bs (step net b s)
 
 -- the state after a scan of a network
-abbrev pub scanned : Network → List ℕ → State
+abbrev pub scanned : Network → Table → State
 scanned net t = steps net (net .blocks) (fresh t)
 
--- the network's refusals, then 12 for a table that is not exactly the sum of the areas, or outputs shorter than the count
-unfoldable pub scan-verdict : List ℕ → List ℕ → List ℕ → Verdict
-scan-verdict ws t outputs =
-    then (checked ws) (cond (eqb (length t) (total (network-in ws .sizes)) && leb (block-count (network-in ws)) (length outputs)) done (verdict 12 0))
+-- the network's refusals, then 12 for a table that has not exactly the words of the areas, or outputs shorter than the count: of a
+-- table and of a list it takes how long they are
+unfoldable pub scan-verdict : Words → ℕ → ℕ → Verdict
+scan-verdict ws size room =
+    then (checked ws) (cond (eqb size (total (network-in ws .sizes)) && leb (block-count (network-in ws)) room) done (verdict 12 0))
 
--- the table after the scan; the outputs, a number for each block, and entries after the count stay
-unfoldable pub scan-table : List ℕ → List ℕ → List ℕ → List ℕ
+-- the table after the scan, for outputs with so much room
+unfoldable pub scan-table : Words → Table → ℕ → Table
 unfolding scan-verdict steps
-scan-table ws t outputs = cond (eqb (scan-verdict ws t outputs .number) 0) (scanned (network-in ws) t .table) t
+scan-table ws t room = cond (eqb (scan-verdict ws (length t) room .number) 0) (scanned (network-in ws) t .table) t
 
-unfoldable pub scan-outputs : List ℕ → List ℕ → List ℕ → List ℕ
+-- the outputs in a lent list of records, one for each block; entries after the count stay
+unfoldable pub scan-records : Words → Table → List Outputs → List Outputs
 unfolding scan-verdict steps
-scan-outputs ws t outputs =
-    cond (eqb (scan-verdict ws t outputs .number) 0) (map packed (scanned (network-in ws) t .outs) ++ drop (block-count (network-in ws)) outputs) outputs
+scan-records ws t list =
+    cond (eqb (scan-verdict ws (length t) (length list) .number) 0) (scanned (network-in ws) t .outs ++ drop (block-count (network-in ws)) list) list
+
+-- the same in a list of numbers, each a record packed
+unfoldable pub scan-packed : Words → Table → List ℕ → List ℕ
+unfolding scan-verdict steps
+scan-packed ws t numbers =
+    cond (eqb (scan-verdict ws (length t) (length numbers) .number) 0)
+    (map packed (scanned (network-in ws) t .outs) ++ drop (block-count (network-in ws)) numbers) numbers

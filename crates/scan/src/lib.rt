@@ -16,9 +16,10 @@ use network::MOST_BLOCKS;
 pub use repeat::scans;
 use table::Sizes;
 use verdict::Verdict;
+ghost use lib.ListN.{length};
 ghost use Rattle.verdict.specs.Promise.{LeavesTwo};
 ghost use Rattle.network.specs.Network.{areas-only};
-ghost use Rattle.scan.specs.Scan.{scan-verdict, scan-table, scan-outputs};
+ghost use Rattle.scan.specs.Scan.{scan-verdict, scan-table, scan-packed};
 ghost use Rattle.scan.specs.Inner.{Next, Ran};
 
 // One block: the power on its inputs, with the outputs of the scan's k earlier blocks, which stand from entry `first` on; its work; its
@@ -49,9 +50,9 @@ fn run_one(
 pub fn scan_packed(words: &[u16], table: &mut [u16], outputs: &mut [u16]) -> Verdict
     ensures { λ r. ⌜
         LeavesTwo
-        (scan-verdict (now (words .entry)) (now (table .entry)) (now (outputs .entry)))
-        (scan-table (now (words .entry)) (now (table .entry)) (now (outputs .entry)))
-        (scan-outputs (now (words .entry)) (now (table .entry)) (now (outputs .entry)))
+        (scan-verdict (now (words .entry)) (length (now (table .entry))) (length (now (outputs .entry))))
+        (scan-table (now (words .entry)) (now (table .entry)) (length (now (outputs .entry))))
+        (scan-packed (now (words .entry)) (now (table .entry)) (now (outputs .entry)))
         r (now (table .exit)) (now (outputs .exit)) ⌝ }
 {
     let mut pointers = [0u16; MOST_BLOCKS];

@@ -3,6 +3,7 @@ use crate::located::blocks_of;
 use crate::run_one;
 use network::Opened;
 use verdict::Verdict;
+ghost use lib.ListN.{length};
 ghost use Rattle.verdict.specs.Promise.{LeavesThree};
 ghost use Rattle.network.specs.Check.{network-in};
 ghost use Rattle.scan.specs.Scans.{scans-verdict, scans-left, scans-packed, scans-pointed};
@@ -52,10 +53,10 @@ pub fn scans(
 ) -> Verdict
     ensures { λ r. ⌜
         LeavesThree
-        (scans-verdict (now (words .entry)) (now (table .entry)) times (now (outputs .entry)) (now (pointers .entry)))
-        (scans-left (now (words .entry)) (now (table .entry)) times (now (outputs .entry)) (now (pointers .entry)))
-        (scans-packed (now (words .entry)) (now (table .entry)) times (now (outputs .entry)) (now (pointers .entry)))
-        (scans-pointed (now (words .entry)) (now (table .entry)) times (now (outputs .entry)) (now (pointers .entry)))
+        (scans-verdict (now (words .entry)) (length (now (table .entry))) times (length (now (outputs .entry))) (length (now (pointers .entry))))
+        (scans-left (now (words .entry)) (now (table .entry)) times (length (now (outputs .entry))) (length (now (pointers .entry))))
+        (scans-packed (now (words .entry)) (now (table .entry)) times (now (outputs .entry)) (length (now (pointers .entry))))
+        (scans-pointed (now (words .entry)) (now (table .entry)) times (length (now (outputs .entry))) (now (pointers .entry)))
         r (now (table .exit)) (now (outputs .exit)) (now (pointers .exit)) ⌝ }
 {
     let o = network::opening(words);

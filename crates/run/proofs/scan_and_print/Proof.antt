@@ -5,7 +5,7 @@ use lib.ListN.{length, replicate, length-replicate}
 use mathlib.Core.Path.{_≡_, _∙_}
 use mathlib.Core.List.{List}
 use Prim.Native.Nat.{ℕ}
-use Rattle.run.specs.Run.{most-at-once}
+use Rattle.run.specs.Page.{most-at-once}
 use Rattle.run.proofs.Running.{words-small, next-small, front-long, all-fit, end-fits, head-put, end-put, all-done}
 use Rattle.run.proofs.scan_and_print.Statement.{statement}
 use Rattle.run.proofs.scan_and_print.Tie as tie
