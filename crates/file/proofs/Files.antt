@@ -243,34 +243,39 @@ module _ (ws : List ℕ) where
       ∙ sym (word-here ws (after-image + 1))
 
   -- ---- an opening of the network at the front, and what follows
-  module _ (odd : Bool) (o : Opened) (e : o ≡ leading ws) {table scans : ℕ} (t : table ≡ total (o .sizes)) (s : scans ≡ word ws (o .next + 1 + table + 1)) where
+  module _ (odd : Bool) (o : Opened) (e : o ≡ leading ws) {next table scans : ℕ} (n : next ≡ o .next) (t : table ≡ total (o .sizes)) (s : scans ≡ word ws (next + 1 + table + 1)) where
+    last : next ≡ network-end ws
+    last = n ∙ ap (λ (x : Opened). x .next) e
+
     opened-as : {v : Verdict} → v ≡ file-checked ws odd
-        → _≡_ {A = OpenedFile} (record { verdict = v; network = o; image = o .next + 1; words = table; scans = scans }) (opened-file ws odd)
+        → _≡_ {A = OpenedFile} (record { verdict = v; network = o; image = next + 1; words = table; scans = scans }) (opened-file ws odd)
     opened-as p =
         let same : table ≡ total (network-in ws .sizes) = t ∙ ap (λ (x : Opened). total (x .sizes)) e in
         λ i. record {
           verdict = p i;
           network = e i;
-          image = e i .next + 1;
-          words = (same ∙ ap (λ (n : Network). total (n .sizes)) (sym network-is)) i;
-          scans = (s ∙ ap₂ (λ (x : Opened) (n : ℕ). word ws (x .next + 1 + n + 1)) e same ∙ sym run-is) i;
+          image = last i + 1;
+          words = (same ∙ ap (λ (net : Network). total (net .sizes)) (sym network-is)) i;
+          scans = (s ∙ ap₂ (λ (k m : ℕ). word ws (k + 1 + m + 1)) last same ∙ sym run-is) i;
         }
 
-    pub check-refused : (o .verdict .number ≡ 0 → ⊥)
-        → _≡_ {A = OpenedFile} (record { verdict = o .verdict; network = o; image = o .next + 1; words = table; scans = scans }) (opened-file ws odd)
-    check-refused h =
-        let v : o .verdict ≡ front-checked ws = ap (λ (x : Opened). x .verdict) e in
-        let rest : Verdict = tail-at (begun-file ws) ws (network-end ws) odd in
-        opened-as (sym (then-first (o .verdict) rest h) ∙ ap (λ (x : Verdict). then x rest) v ∙ sym (checked-is ws odd))
+    module _ {v : Verdict} (same : v ≡ o .verdict) where
+      at-front : v ≡ front-checked ws
+      at-front = same ∙ ap (λ (x : Opened). x .verdict) e
 
-    pub check-passed : {w : Verdict} → o .verdict .number ≡ 0 → w ≡ tail-at (begun-file ws) ws (o .next) odd
-        → _≡_ {A = OpenedFile} (record { verdict = w; network = o; image = o .next + 1; words = table; scans = scans }) (opened-file ws odd)
-    check-passed {w} z r =
-        let v : o .verdict ≡ front-checked ws = ap (λ (x : Opened). x .verdict) e in
-        let rest : Verdict = tail-at (begun-file ws) ws (network-end ws) odd in
-        opened-as
-        (r
-        ∙ ap (λ (x : Opened). tail-at (begun-file ws) ws (x .next) odd) e
-        ∙ sym (then-next (o .verdict) rest z)
-        ∙ ap (λ (x : Verdict). then x rest) v
-        ∙ sym (checked-is ws odd))
+      pub check-refused : (v .number ≡ 0 → ⊥)
+          → _≡_ {A = OpenedFile} (record { verdict = v; network = o; image = next + 1; words = table; scans = scans }) (opened-file ws odd)
+      check-refused h =
+          let rest : Verdict = tail-at (begun-file ws) ws (network-end ws) odd in
+          opened-as (sym (then-first v rest h) ∙ ap (λ (x : Verdict). then x rest) at-front ∙ sym (checked-is ws odd))
+
+      pub check-passed : {w : Verdict} → v .number ≡ 0 → w ≡ tail-at (begun-file ws) ws next odd
+          → _≡_ {A = OpenedFile} (record { verdict = w; network = o; image = next + 1; words = table; scans = scans }) (opened-file ws odd)
+      check-passed {w} z r =
+          let rest : Verdict = tail-at (begun-file ws) ws (network-end ws) odd in
+          opened-as
+          (r
+          ∙ ap (λ (k : ℕ). tail-at (begun-file ws) ws k odd) last
+          ∙ sym (then-next v rest z)
+          ∙ ap (λ (x : Verdict). then x rest) at-front
+          ∙ sym (checked-is ws odd))

@@ -111,11 +111,11 @@ pub fn check(words: &[u16], odd: bool) -> OpenedFile
     ensures { λ r. ⌜ r ≡ opened-file (now (words .entry)) odd ⌝ }
 {
     let network = network::leading(words);
-    let next = network.next;
-    let table = table::total(network.sizes) as usize;
+    let next = network.next();
+    let table = table::total(network.sizes()) as usize;
     let image = next + 1;
     let scans = word(words, image + table + 1);
-    let verdict = network.verdict;
+    let verdict = network.verdict();
     if verdict.number != 0 {
         return OpenedFile {
             verdict,

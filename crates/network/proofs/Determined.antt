@@ -4,6 +4,10 @@ use Rattle.verdict.specs.Promise.{Decides}
 use Rattle.network.proofs.checker.check.Reads as check-reads
 use Rattle.network.proofs.checker.leading.Reads as leading-reads
 use Rattle.network.proofs.checker.opening.Reads as opening-reads
+use Rattle.network.proofs.checker.Opened.verdict.Reads as opened-verdict-reads
+use Rattle.network.proofs.checker.Opened.sizes.Reads as opened-sizes-reads
+use Rattle.network.proofs.checker.Opened.count.Reads as opened-count-reads
+use Rattle.network.proofs.checker.Opened.next.Reads as opened-next-reads
 use Rattle.network.proofs.reading.record_at.Reads as record-at-reads
 
 pub check : Decides check-reads.Post
@@ -17,3 +21,15 @@ opening κs a x y s t p q = p ∙ sym q
 
 pub record-at : Decides record-at-reads.Post
 record-at κs a x y s t p q = p ∙ sym q
+
+pub opened-verdict : Decides opened-verdict-reads.Post
+opened-verdict κs a x y s t p q = p ∙ sym q
+
+pub opened-sizes : Decides opened-sizes-reads.Post
+opened-sizes κs a x y s t p q = p ∙ sym q
+
+pub opened-count : Decides opened-count-reads.Post
+opened-count κs a x y s t p q = p ∙ sym q
+
+pub opened-next : Decides opened-next-reads.Post
+opened-next κs a x y s t p q = p ∙ sym q

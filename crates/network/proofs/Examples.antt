@@ -12,7 +12,7 @@ use Rattle.rules.specs.Rules.{rule, allows}
 use Rattle.rules.specs.Fault.{faults}
 use Rattle.network.specs.declared.reading.Read.{Read}
 use Rattle.network.specs.declared.reading.Read.the-variants.{Record, Refused}
-use Rattle.network.specs.Check.{areas-section, block-faults, blocks-section, network-in, checked, read-at, read}
+use Rattle.network.specs.Check.{areas-section, block-faults, blocks-section, network-in, network-end, checked, opened, read-at, read}
 
 -- a block's 15 words: kind, n, top and middle node, then three inputs and three coils
 abbrev block : ℕ → ℕ → ℕ → ℕ → ℕ → ℕ → List ℕ → List ℕ
@@ -99,7 +99,7 @@ pub edges :
 unfolding checked whole judged-from seek earned section-earns records-earn areas-section sizes-faults blocks-section block-faults faults block-in reference-fault rule allows
 edges = refl
 
--- 12: a block that is not there
+-- 12: a block that is not there, and words that are fewer than those opened
 abbrev compare : List ℕ
 compare = 5 ∷ 1 ∷ 4 ∷ 1 ∷ 4 ∷ 2 ∷ plain
 
@@ -108,7 +108,7 @@ wrong = 5 ∷ 1 ∷ 4 ∷ 1 ∷ 4 ∷ 3 ∷ plain
 
 pub readings :
     _≡_ {A = List Read}
-    (read (4 ∷ 0 ∷ 0 ∷ 0 ∷ 3 ∷ 1 ∷ compare) 1 ∷ read (4 ∷ 0 ∷ 0 ∷ 0 ∷ 3 ∷ 1 ∷ compare) 0 ∷ read (4 ∷ 0 ∷ 0 ∷ 0 ∷ 3 ∷ 1 ∷ compare) 2 ∷ read (4 ∷ 0 ∷ 0 ∷ 0 ∷ 3 ∷ 1 ∷ wrong) 1 ∷ [])
-    (Record (block-in compare) ∷ Refused (verdict 12 0) ∷ Refused (verdict 12 0) ∷ Refused (verdict 8 12) ∷ [])
-unfolding read-at network-in meaning records-in checked whole judged-from seek earned section-earns records-earn areas-section sizes-faults blocks-section block-faults faults block-in reference-fault rule allows
+    (read (4 ∷ 0 ∷ 0 ∷ 0 ∷ 3 ∷ 1 ∷ compare) 1 ∷ read (4 ∷ 0 ∷ 0 ∷ 0 ∷ 3 ∷ 1 ∷ compare) 0 ∷ read (4 ∷ 0 ∷ 0 ∷ 0 ∷ 3 ∷ 1 ∷ compare) 2 ∷ read (4 ∷ 0 ∷ 0 ∷ 0 ∷ 3 ∷ 1 ∷ wrong) 1 ∷ read-at (4 ∷ 0 ∷ 0 ∷ 0 ∷ 3 ∷ 1 ∷ []) (opened (4 ∷ 0 ∷ 0 ∷ 0 ∷ 3 ∷ 1 ∷ compare)) 1 ∷ [])
+    (Record (block-in compare) ∷ Refused (verdict 12 0) ∷ Refused (verdict 12 0) ∷ Refused (verdict 8 12) ∷ Refused (verdict 12 0) ∷ [])
+unfolding read-at network-in network-end meaning records-in checked whole judged-from seek earned section-earns records-earn areas-section sizes-faults blocks-section block-faults faults block-in reference-fault rule allows
 readings = refl

@@ -12,6 +12,7 @@ use Rattle.network.specs.Network.{block-of, block-count}
 use Rattle.network.specs.Check.{network-in, opened, checked, record-start, read-at}
 use Rattle.network.specs.Sound.{GoodNetwork}
 use Rattle.network.proofs.Accepted.{accepts-exactly}
+use Rattle.network.proofs.Good.{whole-front}
 use Rattle.network.proofs.Networks.{block-is}
 use Rattle.network.proofs.ReadAt.{read-record}
 
@@ -30,6 +31,6 @@ pub reads-block : (ws : List ℕ) (o : Opened) (k : ℕ) → o ≡ opened ws →
 reads-block ws o k e h l =
     let n : k + 1 - 1 ≡ k = omega arith in
     ap (λ (x : Opened). read-at ws x (k + 1)) e
-    ∙ read-record ws (opened ws) (k + 1) h (omega arith) (omega (arith, l))
+    ∙ read-record ws (opened ws) (k + 1) h (omega arith) (omega (arith, l)) (omega (arith, whole-front ws h .1))
     ∙ ap (λ (i : ℕ). Record (block-in (drop (record-start i) ws))) n
     ∙ ap Record (sym (block-is ws k l))

@@ -4,7 +4,7 @@ use Prim.Native.Nat.{ℕ, _+_, _-_, _*_}
 use mathlib.Core.Bool.{false, cond, _&&_}
 use mathlib.Core.List.{List, [], _∷_}
 use lib.Dec.{leb, eqb}
-use lib.ListN.{drop}
+use lib.ListN.{length, drop}
 use Rattle.verdict.specs.declared.Verdict.{Verdict}
 use Rattle.section.specs.Walk.{word}
 use Rattle.verdict.specs.Verdict.{verdict}
@@ -72,15 +72,15 @@ leading ws = opened-with ws (front-checked ws)
 abbrev pub opened : List ℕ → Opened
 opened ws = opened-with ws (checked ws)
 
--- ---- the reader: the opening's refusal, or 12 when k isn't 1 to the count, or the record whose words stand after the areas, the
--- count and the earlier blocks
+-- ---- the reader: the opening's refusal, or 12 when k isn't 1 to the count or the words are fewer than the opening's network has, or
+-- the record whose words stand after the areas, the count and the earlier blocks
 abbrev pub record-start : ℕ → ℕ
 record-start earlier = 6 + record-words * earlier
 
 unfoldable pub read-at : List ℕ → Opened → ℕ → Read
 read-at ws o k =
     cond (eqb (o .verdict .number) 0)
-    (cond (leb 1 k && leb k (o .count)) (Record (block-in (drop (record-start (k - 1)) ws))) (Refused (verdict 12 0)))
+    (cond (leb 1 k && leb k (o .count) && leb (o .next) (length ws)) (Record (block-in (drop (record-start (k - 1)) ws))) (Refused (verdict 12 0)))
     (Refused (o .verdict))
 
 abbrev pub read : List ℕ → ℕ → Read

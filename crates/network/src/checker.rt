@@ -14,12 +14,43 @@ ghost use Rattle.record.specs.Record.{record-words};
 ghost use Rattle.network.specs.Network.{areas-only};
 ghost use Rattle.network.specs.Check.{sizes-in, areas-section, block-faults, blocks-section, no-network, leading, opened, checked};
 
-// The verdict on a network with what its words spell: the sizes, the count of blocks, and the index after the last block.
+// The verdict on a network with what its words spell: the sizes, the count of blocks, and the index after the last block. Only
+// `leading` and `opening` make one.
 pub struct Opened {
-    pub verdict: Verdict,
-    pub sizes: Sizes,
-    pub count: u16,
-    pub next: usize,
+    pub(crate) verdict: Verdict,
+    pub(crate) sizes: Sizes,
+    pub(crate) count: u16,
+    pub(crate) next: usize,
+}
+
+impl Opened {
+    // The number and place of the first refusal, or 0 and 0.
+    pub fn verdict(self) -> Verdict
+        ensures { λ r. ⌜ r ≡ self .verdict ⌝ }
+    {
+        self.verdict
+    }
+
+    // The sizes of the areas.
+    pub fn sizes(self) -> Sizes
+        ensures { λ r. ⌜ r ≡ self .sizes ⌝ }
+    {
+        self.sizes
+    }
+
+    // How many blocks there are.
+    pub fn count(self) -> u16
+        ensures { λ r. ⌜ r ≡ self .count ⌝ }
+    {
+        self.count
+    }
+
+    // The index after the last block.
+    pub fn next(self) -> usize
+        ensures { λ r. ⌜ r ≡ self .next ⌝ }
+    {
+        self.next
+    }
 }
 
 // The most blocks of a network.

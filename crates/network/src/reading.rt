@@ -12,13 +12,14 @@ pub enum Read {
     Refused(Verdict),
 }
 
-// The record of block k of a network that was opened before: the opening's refusal, 12, or what the words spell. It checks no
-// word again.
+// The record of block k of a network that was opened before: the opening's refusal, 12 for a block that is not there or words that
+// are fewer than the network's, or what the words spell. It checks no word again.
 pub fn record_at(words: &[u16], o: Opened, k: usize) -> Read
     ensures { λ r. ⌜ r ≡ read-at (now (words .entry)) o k ⌝ }
 {
     let verdict = o.verdict;
     let count = o.count;
+    let next = o.next;
     if verdict.number != 0 {
         return Read::Refused(verdict);
     }
@@ -29,6 +30,12 @@ pub fn record_at(words: &[u16], o: Opened, k: usize) -> Read
         });
     }
     if (count as usize) < k {
+        return Read::Refused(Verdict {
+            number: 12,
+            place: 0,
+        });
+    }
+    if words.len() < next {
         return Read::Refused(Verdict {
             number: 12,
             place: 0,

@@ -73,8 +73,8 @@ pub(crate) fn refused(verdict: Verdict) {
 
 // What an opening found: the blocks, or a refusal.
 pub(crate) fn opened(opened: Opened) {
-    refused(opened.verdict);
-    named(b" blocks ", opened.count as usize);
+    refused(opened.verdict());
+    named(b" blocks ", opened.count() as usize);
 }
 
 // Three outputs, 1 for power and 0 for none.

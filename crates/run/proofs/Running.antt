@@ -143,109 +143,110 @@ module _ {ws : List ℕ} {f : OpenedFile} {t : List ℕ} {from m : ℕ} {text : 
   pub next-small : from + m ≤ 65535
   next-small = omega (arith, sound .file .run-high, fits .few, p .from-high)
 
-  -- the words up to where the network ends
-  front-accepted : front-checked ws .number ≡ 0
-  front-accepted = front-fine ws false judges
-
-  abbrev front : List ℕ
-  front = take (f .network .next) ws
-
-  end-is : f .network .next ≡ network-end ws
-  end-is = ap (λ (x : OpenedFile). x .network .next) (p .judged)
-
-  front-is : front ≡ take (network-end ws) ws
-  front-is = ap (λ (k : ℕ). take k ws) end-is
-
-  pub front-long : f .network .next ≡ length front
-  front-long = sym (length-take-le (f .network .next) ws (omega (arith, end-is, front-good ws front-accepted .2)))
-
-  pub opens : f .network ≡ opened front
-  opens =
-      ap (λ (x : OpenedFile). x .network) (p .judged)
-      ∙ sym (front-opens ws false sound)
-      ∙ ap opened (sym front-is)
-
-  fine-front : f .network .verdict .number ≡ 0
-  fine-front = ap (λ (x : OpenedFile). x .network .verdict .number) (p .judged) ∙ front-accepted
-
-  checks : checked front .number ≡ 0
-  checks = ap (λ (o : Opened). o .verdict .number) (sym opens) ∙ fine-front
-
-  same-network : network-in front ≡ file-in ws .network
-  same-network = ap network-in front-is ∙ front-network ws front-accepted ∙ sym (network-is ws)
-
-  front-total : length t ≡ total (f .network .sizes)
-  front-total =
-      p .exact
-      ∙ ap (λ (net : Network). total (net .sizes)) (network-is ws)
-      ∙ ap (λ (x : OpenedFile). total (x .network .sizes)) (sym (p .judged))
-
-  same-lines : m * block-count (network-in front) ≡ m * count
-  same-lines = ap (λ (net : Network). m * block-count net) same-network
-
-  same-count : m * f .network .count ≡ m * count
-  same-count = ap (λ (k : ℕ). m * k) count-is
-
-  -- the lines of the scans fit after the first line, and the last line after them
-  pub all-fit : {outputs pointers after bytes : List ℕ} {at : ℕ} → length outputs ≡ most-at-once → length pointers ≡ most-at-once → Put longest-line text 0 bytes at after → AllFit front (f .network) outputs pointers from m after at
-  all-fit a b q = record {
-    opens = opens;
-    accepted = checks;
-    numbered = next-small;
-    outputs-room = omega (arith, same-lines, fits .lines, a);
-    pointers-room = omega (arith, same-lines, fits .lines, b);
-    text-room = omega (arith, same-lines, fits .bytes, put-long q, q .few, q .reaches);
-  }
-
-  pub end-fits : {bytes lines after then : List ℕ} {at next : ℕ} → Put longest-line text 0 bytes at after → Put (longest-line * (m * block-count (network-in front))) after at lines next then → next + longest-line ≤ length then
-  end-fits q r = omega (arith, same-lines, fits .bytes, put-long q, put-long r, q .few, q .reaches, r .few, r .reaches)
-
   -- the first line and the last are put
-  pub head-put : {next : ℕ} {after : List ℕ}
-      → Leaves (place-after 0 (first-line from (f .network .count) (f .words)) text) (laid 0 (first-line from (f .network .count) (f .words)) text) next after
-      → Put longest-line text 0 (first-line from (f .network .count) (f .words)) next after
-  head-put =
-      laid-put 0 (first-line from (f .network .count) (f .words)) text (omega (arith, fits .enough)) (first-few from (f .network .count) (f .words))
+  pub head-put : (blocks : ℕ) {next : ℕ} {after : List ℕ}
+      → Leaves (place-after 0 (first-line from blocks (f .words)) text) (laid 0 (first-line from blocks (f .words)) text) next after
+      → Put longest-line text 0 (first-line from blocks (f .words)) next after
+  head-put blocks =
+      laid-put 0 (first-line from blocks (f .words)) text (omega (arith, fits .enough)) (first-few from blocks (f .words))
 
   pub end-put : {at next : ℕ} {then after : List ℕ} → at + longest-line ≤ length then
       → Leaves (place-after at (last-line (from + m) (f .scans)) then) (laid at (last-line (from + m) (f .scans)) then) next after
       → Put longest-line then at (last-line (from + m) (f .scans)) next after
   end-put {at} {next} {then} l = laid-put at (last-line (from + m) (f .scans)) then l (last-few (from + m) (f .scans))
 
-  module _ (outputs₀ pointers₀ : List ℕ) {table outputs pointers : List ℕ} {r : Verdict} (a : length outputs₀ ≡ most-at-once) (b : length pointers₀ ≡ most-at-once)
-      (s : LeavesThree (scans-verdict front (length t) m (length outputs₀) (length pointers₀)) (scans-left front t m (length outputs₀) (length pointers₀)) (scans-packed front t m outputs₀ (length pointers₀)) (scans-pointed front t m (length outputs₀) pointers₀)
-      r table outputs pointers) where
-    abbrev net : Network
-    net = network-in front
+  -- the words up to where the network ends, whose index is `end`
+  module _ {end : ℕ} (e : end ≡ f .network .next) where
+    front-accepted : front-checked ws .number ≡ 0
+    front-accepted = front-fine ws false judges
 
-    scanned-so : LeavesThree (scans-verdict front (length t) m (length outputs₀) (length pointers₀)) (scans-left front t m (length outputs₀) (length pointers₀)) (scans-packed front t m outputs₀ (length pointers₀)) (scans-pointed front t m (length outputs₀) pointers₀)
-        done (scans-table net t m) (scans-outputs net t m ++ drop (m * block-count net) outputs₀) (scans-pointers net t m ++ drop (m * block-count net) pointers₀)
-    scanned-so =
-        repeats front t m outputs₀ pointers₀ opens fine-front front-total (omega (arith, same-count, fits .lines, a)) (omega (arith, same-count, fits .lines, b))
-        (record { table-after = refl; outputs-after = refl; pointers-after = refl })
+    abbrev front : List ℕ
+    front = take end ws
 
-    lines-are : entries net outputs pointers from m ≡ scans-lines (file-in ws .network) t from m
-    lines-are =
-        entries-are net t outputs pointers (drop (m * block-count net) outputs₀) (drop (m * block-count net) pointers₀) from m
-        (s .leaves-other ∙ sym (scanned-so .leaves-other)) (s .leaves-last ∙ sym (scanned-so .leaves-last))
-        ∙ ap (λ (n : Network). scans-lines n t from m) same-network
+    end-is : end ≡ network-end ws
+    end-is = e ∙ ap (λ (x : OpenedFile). x .network .next) (p .judged)
 
-    pub all-done : {one two three : List ℕ} {i j k : ℕ}
-        → Put longest-line text 0 (first-line from (f .network .count) (f .words)) i one
-        → Put (longest-line * (m * block-count net)) one i (entries net outputs pointers from m) j two
-        → Put longest-line two j (last-line (from + m) (f .scans)) k three
-        → Done ws t from m text k table three
-    unfolding run-lines
-    all-done {one} {two} {three} {i} {j} {k} x y z =
-        let all = put-front (put-then (put-then x y) z) in
-        let same : first-line from (f .network .count) (f .words) ++ entries net outputs pointers from m ++ last-line (from + m) (f .scans) ≡ run-lines (file-in ws) t from m =
-        λ h. first-line from (count-is h) (words-is h) ++ lines-are h ++ last-line (from + m) (scans-is h)
-        in
-        record {
-          counted = all .0 ∙ ap length same;
-          table-after = s .leaves-one ∙ sym (scanned-so .leaves-one) ∙ ap (λ (n : Network). scans-table n t m) same-network;
-          text-after = all .1 ∙ ap (λ (l : List ℕ). l ++ drop (length l) text) same;
-        }
+    front-is : front ≡ take (network-end ws) ws
+    front-is = ap (λ (k : ℕ). take k ws) end-is
+
+    pub front-long : end ≡ length front
+    front-long = sym (length-take-le end ws (omega (arith, end-is, front-good ws front-accepted .2)))
+
+    pub opens : f .network ≡ opened front
+    opens =
+        ap (λ (x : OpenedFile). x .network) (p .judged)
+        ∙ sym (front-opens ws false sound)
+        ∙ ap opened (sym front-is)
+
+    fine-front : f .network .verdict .number ≡ 0
+    fine-front = ap (λ (x : OpenedFile). x .network .verdict .number) (p .judged) ∙ front-accepted
+
+    checks : checked front .number ≡ 0
+    checks = ap (λ (o : Opened). o .verdict .number) (sym opens) ∙ fine-front
+
+    same-network : network-in front ≡ file-in ws .network
+    same-network = ap network-in front-is ∙ front-network ws front-accepted ∙ sym (network-is ws)
+
+    front-total : length t ≡ total (f .network .sizes)
+    front-total =
+        p .exact
+        ∙ ap (λ (net : Network). total (net .sizes)) (network-is ws)
+        ∙ ap (λ (x : OpenedFile). total (x .network .sizes)) (sym (p .judged))
+
+    same-lines : m * block-count (network-in front) ≡ m * count
+    same-lines = ap (λ (net : Network). m * block-count net) same-network
+
+    same-count : m * f .network .count ≡ m * count
+    same-count = ap (λ (k : ℕ). m * k) count-is
+
+    -- the lines of the scans fit after the first line, and the last line after them
+    pub all-fit : {outputs pointers after bytes : List ℕ} {at : ℕ} → length outputs ≡ most-at-once → length pointers ≡ most-at-once → Put longest-line text 0 bytes at after → AllFit front (f .network) outputs pointers from m after at
+    all-fit a b q = record {
+      opens = opens;
+      accepted = checks;
+      numbered = next-small;
+      outputs-room = omega (arith, same-lines, fits .lines, a);
+      pointers-room = omega (arith, same-lines, fits .lines, b);
+      text-room = omega (arith, same-lines, fits .bytes, put-long q, q .few, q .reaches);
+    }
+
+    pub end-fits : {bytes lines after then : List ℕ} {at next : ℕ} → Put longest-line text 0 bytes at after → Put (longest-line * (m * block-count (network-in front))) after at lines next then → next + longest-line ≤ length then
+    end-fits q r = omega (arith, same-lines, fits .bytes, put-long q, put-long r, q .few, q .reaches, r .few, r .reaches)
+
+    module _ (outputs₀ pointers₀ : List ℕ) {table outputs pointers : List ℕ} {r : Verdict} (a : length outputs₀ ≡ most-at-once) (b : length pointers₀ ≡ most-at-once)
+        (s : LeavesThree (scans-verdict front (length t) m (length outputs₀) (length pointers₀)) (scans-left front t m (length outputs₀) (length pointers₀)) (scans-packed front t m outputs₀ (length pointers₀)) (scans-pointed front t m (length outputs₀) pointers₀)
+        r table outputs pointers) where
+      abbrev net : Network
+      net = network-in front
+
+      scanned-so : LeavesThree (scans-verdict front (length t) m (length outputs₀) (length pointers₀)) (scans-left front t m (length outputs₀) (length pointers₀)) (scans-packed front t m outputs₀ (length pointers₀)) (scans-pointed front t m (length outputs₀) pointers₀)
+          done (scans-table net t m) (scans-outputs net t m ++ drop (m * block-count net) outputs₀) (scans-pointers net t m ++ drop (m * block-count net) pointers₀)
+      scanned-so =
+          repeats front t m outputs₀ pointers₀ opens fine-front front-total (omega (arith, same-count, fits .lines, a)) (omega (arith, same-count, fits .lines, b))
+          (record { table-after = refl; outputs-after = refl; pointers-after = refl })
+
+      lines-are : entries net outputs pointers from m ≡ scans-lines (file-in ws .network) t from m
+      lines-are =
+          entries-are net t outputs pointers (drop (m * block-count net) outputs₀) (drop (m * block-count net) pointers₀) from m
+          (s .leaves-other ∙ sym (scanned-so .leaves-other)) (s .leaves-last ∙ sym (scanned-so .leaves-last))
+          ∙ ap (λ (n : Network). scans-lines n t from m) same-network
+
+      pub all-done : {one two three : List ℕ} {blocks i j k : ℕ} → blocks ≡ f .network .count
+          → Put longest-line text 0 (first-line from blocks (f .words)) i one
+          → Put (longest-line * (m * block-count net)) one i (entries net outputs pointers from m) j two
+          → Put longest-line two j (last-line (from + m) (f .scans)) k three
+          → Done ws t from m text k table three
+      unfolding run-lines
+      all-done {one} {two} {three} {blocks} {i} {j} {k} counted x y z =
+          let all = put-front (put-then (put-then x y) z) in
+          let same : first-line from blocks (f .words) ++ entries net outputs pointers from m ++ last-line (from + m) (f .scans) ≡ run-lines (file-in ws) t from m =
+          λ h. first-line from ((counted ∙ count-is) h) (words-is h) ++ lines-are h ++ last-line (from + m) (scans-is h)
+          in
+          record {
+            counted = all .0 ∙ ap length same;
+            table-after = s .leaves-one ∙ sym (scanned-so .leaves-one) ∙ ap (λ (n : Network). scans-table n t m) same-network;
+            text-after = all .1 ∙ ap (λ (l : List ℕ). l ++ drop (length l) text) same;
+          }
 
 -- ---- the verdict by its tests
 pub by-tests : (ws : List ℕ) (size from room : ℕ) (fine long low high some : Bool) → eqb (file-checked ws false .number) 0 ≡ fine → eqb size (table-words (file-in ws)) ≡ long → leb 1 from ≡ low → leb from (file-in ws .run) ≡ high
@@ -310,13 +311,14 @@ module _ (ws t : List ℕ) (from : ℕ) (text : List ℕ) where
           pub bad-high : f .scans < from → Answers (went (verdict 12 0) from 0) t text
           bad-high h = short (by-tests ws (length t) from (length text) true true true false _ fine long (le-leb 1 from low) (lt-leb from (file-in ws .run) (subst (λ (k : ℕ). k < from) same-scans h)) refl)
 
-          module _ (high : from ≤ f .scans) {m : ℕ} (so-many : m ≡ at-once (f .network .count) (length text) (f .scans + 1 - from)) where
+          module _ (high : from ≤ f .scans) {blocks m : ℕ} (counted : blocks ≡ f .network .count) (so-many : m ≡ at-once blocks (length text) (f .scans + 1 - from)) where
             in-file : from ≤ file-in ws .run
             in-file = subst (λ (k : ℕ). from ≤ k) same-scans high
 
             as-many : m ≡ many (file-in ws) from (length text)
             as-many =
                 so-many
+                ∙ ap (λ (n : ℕ). at-once n (length text) (f .scans + 1 - from)) counted
                 ∙ ap (λ (x : OpenedFile). at-once (x .network .count) (length text) (x .scans + 1 - from)) j
                 ∙ ap (λ (net : Network). at-once (block-count net) (length text) (file-in ws .run + 1 - from)) (sym (network-is ws))
 

@@ -73,12 +73,12 @@ fn scan_and_print(
         Done (now (words .entry)) (now (table .entry)) from times (now (text .entry)) r (now (table .exit)) (now (text .exit)) ⌝ }
 {
     let o = file.network;
-    let end = o.next;
+    let end = o.next();
     let network = &words[..end];
     let mut outputs = [0u16; MOST_LINES];
     let mut pointers = [0u16; MOST_LINES];
     scan::scans(network, table, times, &mut outputs, &mut pointers);
-    let at = put_head(text, from, o.count, file.words as u16);
+    let at = put_head(text, from, o.count(), file.words as u16);
     let at = put_scans(text, at, network, o, from, times, &outputs, &pointers);
     put_end(text, at, from + times, file.scans)
 }
@@ -119,7 +119,7 @@ pub fn run(words: &[u16], table: &mut [u16], from: u16, text: &mut [u8]) -> Went
     if file.scans < from {
         return short;
     }
-    let times = at_once(file.network.count, text.len(), file.scans + 1 - from);
+    let times = at_once(file.network.count(), text.len(), file.scans + 1 - from);
     if times < 1 {
         return short;
     }

@@ -27,7 +27,7 @@ fn put_scan(
         (entry-lines (network-in (now (words .entry))) (now (outputs .entry)) (now (pointers .entry)) scan first (block-count (network-in (now (words .entry)))))
         r (now (text .exit)) ⌝ }
 {
-    let count = o.count;
+    let count = o.count();
     let mut next = at;
     let mut k = 0;
     while k < count {
@@ -71,7 +71,7 @@ pub(crate) fn put_scans(
         (entries (network-in (now (words .entry))) (now (outputs .entry)) (now (pointers .entry)) from times)
         r (now (text .exit)) ⌝ }
 {
-    let count = o.count as usize;
+    let count = o.count() as usize;
     let mut next = at;
     let mut j = 0;
     while j < times {

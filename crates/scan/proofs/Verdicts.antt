@@ -69,10 +69,13 @@ module _ (ws t : List ℕ) (times : ℕ) (outputs pointers : List ℕ) where
       }
 
   module _ {o : Opened} (e : o ≡ opened ws) where
-    pub repeat-words : (o .verdict .number ≡ 0 → ⊥) → Repeats ws t times outputs pointers (o .verdict) t outputs pointers
-    repeat-words h =
-        repeat-refused (o .verdict)
-        (repeat-tests false _ _ _ (ne-eqb (checked ws .number) 0 (by-words ws t e h)) refl refl refl ∙ sym (ap (λ (x : Opened). x .verdict) e)) h
+    pub repeat-words : {v : Verdict} → v ≡ o .verdict → (v .number ≡ 0 → ⊥) → Repeats ws t times outputs pointers v t outputs pointers
+    repeat-words {v} same h =
+        repeat-refused v
+        (repeat-tests false _ _ _ (ne-eqb (checked ws .number) 0 (by-words ws t e (λ q. h (ap (λ (x : Verdict). x .number) same ∙ q)))) refl refl refl
+        ∙ sym (ap (λ (x : Opened). x .verdict) e)
+        ∙ sym same)
+        h
 
     pub repeat-table : o .verdict .number ≡ 0 → (length t ≡ total (o .sizes) → ⊥) → Repeats ws t times outputs pointers (verdict 12 0) t outputs pointers
     repeat-table h n =

@@ -46,8 +46,8 @@ pub(crate) fn blocks_of(words: &[u16], o: Opened) -> [Located; MOST_BLOCKS]
     ensures { λ r. ⌜ Locates (network-in (now (words .entry))) r ⌝ }
 {
     let mut blocks = [NOTHING; MOST_BLOCKS];
-    let count = o.count as usize;
-    let sizes = o.sizes;
+    let count = o.count() as usize;
+    let sizes = o.sizes();
     let mut k = 0;
     while k < count {
         let Read::Record(block) = network::record_at(words, o, k + 1) else {

@@ -26,8 +26,8 @@ fn run_times(
         (now (table .exit)) (now (outputs .exit)) (now (pointers .exit)) ⌝ }
 {
     let blocks = blocks_of(words, o);
-    let sizes = o.sizes;
-    let count = o.count as usize;
+    let sizes = o.sizes();
+    let count = o.count() as usize;
     let scans = times as usize;
     let mut j = 0;
     while j < scans {
@@ -60,7 +60,7 @@ pub fn scans(
         r (now (table .exit)) (now (outputs .exit)) (now (pointers .exit)) ⌝ }
 {
     let o = network::opening(words);
-    let verdict = o.verdict;
+    let verdict = o.verdict();
     if verdict.number != 0 {
         return verdict;
     }
@@ -68,10 +68,10 @@ pub fn scans(
         number: 12,
         place: 0,
     };
-    if table.len() != table::total(o.sizes) as usize {
+    if table.len() != table::total(o.sizes()) as usize {
         return short;
     }
-    let entries = times as usize * o.count as usize;
+    let entries = times as usize * o.count() as usize;
     if outputs.len() < entries {
         return short;
     }

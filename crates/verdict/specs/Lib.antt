@@ -1,4 +1,5 @@
--- What every crate shares: the verdict, the form of every contract, and names for lists of numbers.
+-- What every crate shares: the verdict, what an answer says, the form of every contract, and names for lists of numbers.
 pub mod Lists
 pub mod Verdict
+pub mod Said
 pub mod Promise

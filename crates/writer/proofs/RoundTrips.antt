@@ -57,7 +57,7 @@ read-is-written ws k buffer e l u long =
     write-done z k b buffer (sizes-allowed z (s .network .areas))
     (in-count most-blocks k l (omega (arith, s .network .few))) (ap (λ (v : Verdict). v .number) judge) long in
     record {
-      is-read = read-record ws (opened ws) k e l u ∙ ap Record (sym at);
+      is-read = read-record ws (opened ws) k e l u (omega (arith, whole-front ws e .1)) ∙ ap Record (sym at);
       is-written = ok;
       words =
           buffer-written z k b buffer (ap (λ (v : Verdict). v .number) ok)

@@ -29,10 +29,13 @@ returns-4 c =
     let x = c .before .before .before .before .before .before .before .before .before .before .before .before .args in
     bad-high (now (x .words)) (now (x .table)) (x .from) (now (x .text)) (c .before .before .before .before .before .before .before .before .check .ensures) (c .before .before .before .before .before .if1 .left) (c .before .before .before .if2 .left) (c .before .before .if3 .left) (c .if4 .taken)
 
+count-requires : tie.Need-count-requires
+count-requires c κs = search needs
+
 add-at-once : tie.Need-add-at-once
 add-at-once c =
-    let x = c .before .before .before .before .before .before .before .before .before .before .before .before .before .args in
-    omega (arith, scans-most (now (x .words)) (now (x .table)) (x .from) (now (x .text)) (c .before .before .before .before .before .before .before .before .before .check .ensures) (c .before .before .before .before .before .before .if1 .left))
+    let x = c .before .before .before .before .before .before .before .before .before .before .before .before .before .before .args in
+    omega (arith, scans-most (now (x .words)) (now (x .table)) (x .from) (now (x .text)) (c .before .before .before .before .before .before .before .before .before .before .check .ensures) (c .before .before .before .before .before .before .before .if1 .left))
 
 sub-at-once : tie.Need-sub-at-once
 sub-at-once c = search needs
@@ -42,18 +45,18 @@ at-once-requires c κs = search needs
 
 returns-5 : tie.Need-returns-5
 returns-5 c =
-    let x = c .before .before .before .before .before .before .before .before .before .before .before .before .before .before .before .args in
-    bad-room (now (x .words)) (now (x .table)) (x .from) (now (x .text)) (c .before .before .before .before .before .before .before .before .before .before .before .check .ensures) (c .before .before .before .before .before .before .before .before .if1 .left) (c .before .before .before .before .before .before .if2 .left) (c .before .before .before .before .before .if3 .left) (c .before .before .before .if4 .left) (c .before .at-once .ensures) (c .if5 .taken)
+    let x = c .before .before .before .before .before .before .before .before .before .before .before .before .before .before .before .before .args in
+    bad-room (now (x .words)) (now (x .table)) (x .from) (now (x .text)) (c .before .before .before .before .before .before .before .before .before .before .before .before .check .ensures) (c .before .before .before .before .before .before .before .before .before .if1 .left) (c .before .before .before .before .before .before .before .if2 .left) (c .before .before .before .before .before .before .if3 .left) (c .before .before .before .before .if4 .left) (c .before .before .before .count .ensures) (c .before .at-once .ensures) (c .if5 .taken)
 
 scan-and-print-requires : tie.Need-scan-and-print-requires
 scan-and-print-requires c κs =
-    let x = c .before .before .before .before .before .before .before .before .before .before .before .before .before .before .before .before .before .args in
-    is-taken (now (x .words)) (now (x .table)) (x .from) (now (x .text)) (c .before .before .before .before .before .before .before .before .before .before .before .before .before .check .ensures) (c .before .before .before .before .before .before .before .before .before .before .if1 .left) (c .before .before .before .before .before .before .before .before .if2 .left) (c .before .before .before .before .before .before .before .if3 .left) (c .before .before .before .before .before .if4 .left) (c .before .before .before .at-once .ensures) (c .before .before .if5 .left)
+    let x = c .before .before .before .before .before .before .before .before .before .before .before .before .before .before .before .before .before .before .args in
+    is-taken (now (x .words)) (now (x .table)) (x .from) (now (x .text)) (c .before .before .before .before .before .before .before .before .before .before .before .before .before .before .check .ensures) (c .before .before .before .before .before .before .before .before .before .before .before .if1 .left) (c .before .before .before .before .before .before .before .before .before .if2 .left) (c .before .before .before .before .before .before .before .before .if3 .left) (c .before .before .before .before .before .before .if4 .left) (c .before .before .before .before .before .count .ensures) (c .before .before .before .at-once .ensures) (c .before .before .if5 .left)
 
-add-t14 : tie.Need-add-t14
-add-t14 c =
-    let x = c .before .before .before .before .before .before .before .before .before .before .before .before .before .before .before .before .before .before .before .before .before .before .args in
-    omega (arith, next-small (is-taken (now (x .words)) (now (x .table)) (x .from) (now (x .text)) (c .before .before .before .before .before .before .before .before .before .before .before .before .before .before .before .before .before .before .check .ensures) (c .before .before .before .before .before .before .before .before .before .before .before .before .before .before .before .if1 .left) (c .before .before .before .before .before .before .before .before .before .before .before .before .before .if2 .left) (c .before .before .before .before .before .before .before .before .before .before .before .before .if3 .left) (c .before .before .before .before .before .before .before .before .before .before .if4 .left) (c .before .before .before .before .before .before .before .before .at-once .ensures) (c .before .before .before .before .before .before .before .if5 .left)))
+add-t15 : tie.Need-add-t15
+add-t15 c =
+    let x = c .before .before .before .before .before .before .before .before .before .before .before .before .before .before .before .before .before .before .before .before .before .before .before .args in
+    omega (arith, next-small (is-taken (now (x .words)) (now (x .table)) (x .from) (now (x .text)) (c .before .before .before .before .before .before .before .before .before .before .before .before .before .before .before .before .before .before .before .check .ensures) (c .before .before .before .before .before .before .before .before .before .before .before .before .before .before .before .before .if1 .left) (c .before .before .before .before .before .before .before .before .before .before .before .before .before .before .if2 .left) (c .before .before .before .before .before .before .before .before .before .before .before .before .before .if3 .left) (c .before .before .before .before .before .before .before .before .before .before .before .if4 .left) (c .before .before .before .before .before .before .before .before .before .before .count .ensures) (c .before .before .before .before .before .before .before .before .at-once .ensures) (c .before .before .before .before .before .before .before .if5 .left)))
 
 same-length : tie.Need-same-length
 same-length c = search needs
@@ -63,8 +66,8 @@ same-length-2 c = search needs
 
 returns-6 : tie.Need-returns-6
 returns-6 c =
-    let x = c .before .before .before .before .before .before .before .before .before .before .before .before .before .before .before .before .before .before .before .before .before .before .args in
-    answered (now (x .words)) (now (x .table)) (x .from) (now (x .text)) (c .before .before .before .before .before .before .before .before .before .before .before .before .before .before .before .before .before .before .check .ensures) (c .before .before .before .before .before .before .before .before .before .before .before .before .before .before .before .if1 .left) (c .before .before .before .before .before .before .before .before .before .before .before .before .before .if2 .left) (c .before .before .before .before .before .before .before .before .before .before .before .before .if3 .left) (c .before .before .before .before .before .before .before .before .before .before .if4 .left) (c .before .before .before .before .before .before .before .before .at-once .ensures) (c .before .before .before .before .before .before .before .if5 .left) (c .before .before .before .before .scan-and-print .ensures)
+    let x = c .before .before .before .before .before .before .before .before .before .before .before .before .before .before .before .before .before .before .before .before .before .before .before .args in
+    answered (now (x .words)) (now (x .table)) (x .from) (now (x .text)) (c .before .before .before .before .before .before .before .before .before .before .before .before .before .before .before .before .before .before .before .check .ensures) (c .before .before .before .before .before .before .before .before .before .before .before .before .before .before .before .before .if1 .left) (c .before .before .before .before .before .before .before .before .before .before .before .before .before .before .if2 .left) (c .before .before .before .before .before .before .before .before .before .before .before .before .before .if3 .left) (c .before .before .before .before .before .before .before .before .before .before .before .if4 .left) (c .before .before .before .before .before .before .before .before .before .before .count .ensures) (c .before .before .before .before .before .before .before .before .at-once .ensures) (c .before .before .before .before .before .before .before .if5 .left) (c .before .before .before .before .scan-and-print .ensures)
 
 pub run-spec : {M : Type 1} → statement M
 run-spec =
@@ -75,12 +78,13 @@ run-spec =
     returns-2
     returns-3
     returns-4
+    count-requires
     add-at-once
     sub-at-once
     at-once-requires
     returns-5
     scan-and-print-requires
-    add-t14
+    add-t15
     same-length
     same-length-2
     returns-6)

@@ -14,19 +14,28 @@ use Rattle.file.proofs.checker.check.Statement.{statement}
 use Rattle.file.proofs.checker.check.Tie as tie
 
 -- where the network ends, and how many words the image has: words are below 65536
-near : (c : tie.After-total) → c .before .leading .result .next ≤ last-end
+near : (c : tie.After-total) → c .before .before .next .result ≤ last-end
 near c =
-    let ws = now (c .before .before .before .args .words) in
-    omega (arith, ap (λ (x : Opened). x .next) (c .before .leading .ensures), end-is ws, c .before .before .shared-slice-known .given 5)
+    let ws = now (c .before .before .before .before .before .args .words) in
+    omega (arith, c .before .before .next .ensures, ap (λ (x : Opened). x .next) (c .before .before .before .leading .ensures), end-is ws, c .before .before .before .before .shared-slice-known .given 5)
+
+summed : (c : tie.After-total) → c .total .result ≡ total (c .before .before .before .leading .result .sizes)
+summed c = c .total .ensures ∙ ap total (c .before .sizes .ensures)
 
 few : (c : tie.After-total) → c .total .result ≤ largest-table
 few c =
-    let ws = now (c .before .before .before .args .words) in
-    let given = c .before .before .shared-slice-known .given in
-    omega (arith, c .total .ensures, ap (λ (x : Opened). total (x .sizes)) (c .before .leading .ensures), ap total (sizes-is ws), given 1, given 2, given 3, given 4)
+    let ws = now (c .before .before .before .before .before .args .words) in
+    let given = c .before .before .before .before .shared-slice-known .given in
+    omega (arith, summed c, ap (λ (x : Opened). total (x .sizes)) (c .before .before .before .leading .ensures), ap total (sizes-is ws), given 1, given 2, given 3, given 4)
 
 leading-requires : tie.Need-leading-requires
 leading-requires c κs = search needs
+
+next-requires : tie.Need-next-requires
+next-requires c κs = search needs
+
+sizes-requires : tie.Need-sizes-requires
+sizes-requires c κs = search needs
 
 total-requires : tie.Need-total-requires
 total-requires c κs = search needs
@@ -46,21 +55,28 @@ add-word-2 c = omega (arith, near c, few c)
 word-requires : tie.Need-word-requires
 word-requires c κs = search needs
 
+verdict-requires : tie.Need-verdict-requires
+verdict-requires c κs = search needs
+
 returns : tie.Need-returns
 returns c =
-    let x = c .before .before .before .before .before .before .before .args in
-    check-refused (now (x .words)) (x .odd) (c .before .before .before .before .before .leading .result) (c .before .before .before .before .before .leading .ensures) (c .before .before .before .before .total .ensures) (c .before .before .before .word .ensures) (c .if1 .taken)
+    let before = c .before .before .before .before in
+    let x = before .before .before .before .before .before .args in
+    let opening = before .before .before .before .leading in
+    check-refused (now (x .words)) (x .odd) (opening .result) (opening .ensures) (before .before .before .next .ensures) (summed before) (c .before .before .before .word .ensures) (c .before .before .verdict .ensures) (c .if1 .taken)
 
 tail-requires : tie.Need-tail-requires
 tail-requires c κs = (near (c .before .before .before .before), few (c .before .before .before .before))
 
 returns-2 : tie.Need-returns-2
 returns-2 c =
-    let x = c .before .before .before .before .before .before .before .before .args in
+    let before = c .before .before .before .before .before in
+    let x = before .before .before .before .before .before .args in
     let ws = now (x .words) in
-    let same : total (network-in ws .sizes) ≡ c .before .before .before .before .before .total .result =
-    sym (c .before .before .before .before .before .total .ensures ∙ ap (λ (o : Opened). total (o .sizes)) (c .before .before .before .before .before .before .leading .ensures)) in
-    check-passed ws (x .odd) (c .before .before .before .before .before .before .leading .result) (c .before .before .before .before .before .before .leading .ensures) (c .before .before .before .before .before .total .ensures) (c .before .before .before .before .word .ensures) (c .before .if1 .left)
+    let opening = before .before .before .before .leading in
+    let same : total (network-in ws .sizes) ≡ before .total .result =
+    sym (summed before ∙ ap (λ (o : Opened). total (o .sizes)) (opening .ensures)) in
+    check-passed ws (x .odd) (opening .result) (opening .ensures) (before .before .before .next .ensures) (summed before) (c .before .before .before .before .word .ensures) (c .before .before .before .verdict .ensures) (c .before .if1 .left)
     (c .tail .ensures (begun-file ws) same)
 
 pub check-spec : {M : Type 1} → statement M
@@ -68,12 +84,15 @@ check-spec =
     tie.close
     (tie.spec
     leading-requires
+    next-requires
+    sizes-requires
     total-requires
     cast-table
     add-image
     add-word
     add-word-2
     word-requires
+    verdict-requires
     returns
     tail-requires
     returns-2)

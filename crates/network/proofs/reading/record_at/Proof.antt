@@ -5,7 +5,7 @@ use mathlib.Core.Path.{sym, ap, _∙_}
 use denote.Ref.{now}
 use Rattle.section.proofs.Limits.{below-count, above-count}
 use Rattle.network.specs.declared.reading.Read.the-variants.{Record}
-use Rattle.network.proofs.ReadAt.{read-refused, read-none, read-record}
+use Rattle.network.proofs.ReadAt.{read-refused, read-none, read-short, read-record}
 use Rattle.network.proofs.reading.record_at.Statement.{statement}
 use Rattle.network.proofs.reading.record_at.Tie as tie
 
@@ -21,6 +21,11 @@ cast-if3 c = search needs
 returns-3 : tie.Need-returns-3
 returns-3 c = let x = c .before .before .before .before .before .before .args in sym (read-none (now (x .words)) (x .o) (x .k) (c .before .before .if1 .left) (above-count (x .o .count) (x .k) (c .before .if2 .left) (c .if3 .taken)))
 
+returns-4 : tie.Need-returns-4
+returns-4 c =
+    let x = c .before .before .before .before .before .before .before .args in
+    sym (read-short (now (x .words)) (x .o) (x .k) (c .before .before .before .if1 .left) (c .before .before .if2 .left) (c .before .if3 .left) (c .if4 .taken))
+
 cast-block-at : tie.Need-cast-block-at
 cast-block-at c = search needs
 
@@ -33,8 +38,11 @@ add-block-at c = search needs
 block-at-requires : tie.Need-block-at-requires
 block-at-requires c κs = search needs
 
-returns-4 : tie.Need-returns-4
-returns-4 c = let x = c .before .before .before .before .before .before .before .args in ap Record (c .block-at .ensures) ∙ sym (read-record (now (x .words)) (x .o) (x .k) (c .before .before .before .if1 .left) (c .before .before .if2 .left) (c .before .if3 .left))
+returns-5 : tie.Need-returns-5
+returns-5 c =
+    let x = c .before .before .before .before .before .before .before .before .args in
+    ap Record (c .block-at .ensures)
+    ∙ sym (read-record (now (x .words)) (x .o) (x .k) (c .before .before .before .before .if1 .left) (c .before .before .before .if2 .left) (c .before .before .if3 .left) (c .before .if4 .left))
 
 pub record-at-spec : {M : Type 1} → statement M
 record-at-spec =
@@ -44,8 +52,9 @@ record-at-spec =
     returns-2
     cast-if3
     returns-3
+    returns-4
     cast-block-at
     mul-block-at
     add-block-at
     block-at-requires
-    returns-4)
+    returns-5)

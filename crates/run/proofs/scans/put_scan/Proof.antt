@@ -31,7 +31,7 @@ abbrev μ-loop : tie.MeasureT-loop
 μ-loop text₀ at words o scan outputs pointers first count next₀ k₀ text next k = count - k
 
 -- the loop goes on while there are blocks
-below : (c : tie.In-loop Inv-loop μ-loop) → c .before .loop .k < block-count (network-in (now (c .before .before .before .before .before .before .args .words)))
+below : (c : tie.In-loop Inv-loop μ-loop) → c .before .loop .k < block-count (network-in (now (c .before .before .before .before .before .before .before .args .words)))
 below c = omega (arith, c .before .loop .inv .2)
 
 -- and there is room for the next line
@@ -39,21 +39,24 @@ room-at : (c : tie.In-loop Inv-loop μ-loop) → c .before .loop .next + longest
 room-at c = let v = c .before .loop .inv in omega (arith, below c, v .5, v .7 .few, v .7 .reaches, put-long (v .7))
 
 -- the record that was read is the next block's
-next-kind : (c : tie.After-block Inv-loop μ-loop) → c .block .given .0 .0 .kind ≡ block-of (network-in (now (c .before .before .before .before .before .before .before .before .before .args .words))) (c .before .before .before .before .loop .k) .kind
+next-kind : (c : tie.After-block Inv-loop μ-loop) → c .block .given .0 .0 .kind ≡ block-of (network-in (now (c .before .before .before .before .before .before .before .before .before .before .args .words))) (c .before .before .before .before .loop .k) .kind
 next-kind c =
     let v = c .before .before .before .before .loop .inv in
-    let x = c .before .before .before .before .before .before .before .before .before .args in
+    let x = c .before .before .before .before .before .before .before .before .before .before .args in
     ap (λ (b : Block). b .kind)
     (is-next (now (x .words)) (x .o) (c .before .before .before .before .loop .k) (v .0) (v .1) (below (c .before .before .before)) (sym (c .before .before .record-at .ensures) ∙ c .block .given .1))
+
+count-requires : tie.Need-count-requires Inv-loop μ-loop
+count-requires c κs = search needs
 
 loop-holds : tie.Need-loop-holds Inv-loop μ-loop
 unfolding entry-lines
 loop-holds c =
-    let b = c .before .before .before .before in
+    let b = c .before .before .before .before .before in
     let p = b .pre in (
       p .opens,
       p .accepted,
-      ap (λ (o : Opened). o .count) (p .opens),
+      c .count .ensures ∙ ap (λ (o : Opened). o .count) (p .opens),
       p .outputs-room,
       p .pointers-room,
       p .text-room,
@@ -82,7 +85,7 @@ same-length c = put-long (c .before .before .before .before .loop .inv .7)
 returns : tie.Need-returns Inv-loop μ-loop
 returns c =
     let v = c .before .before .before .before .loop .inv in
-    let x = c .before .before .before .before .before .before .before .before .before .args in
+    let x = c .before .before .before .before .before .before .before .before .before .before .args in
     absurd (is-read (now (x .words)) (x .o) (c .before .before .before .before .loop .k) (v .0) (v .1) (below (c .before .before .before)) (sym (c .before .before .record-at .ensures) ∙ c .enum-told .given .1))
 
 add-entry : tie.Need-add-entry Inv-loop μ-loop
@@ -126,7 +129,7 @@ loop-less c = omega arith
 loop-again : tie.Need-loop-again Inv-loop μ-loop
 loop-again c =
     let v = c .before .before .before .before .before .before .before .before .before .before .before .before .before .loop .inv in
-    let x = c .before .before .before .before .before .before .before .before .before .before .before .before .before .before .before .before .before .before .args in (
+    let x = c .before .before .before .before .before .before .before .before .before .before .before .before .before .before .before .before .before .before .before .args in (
       v .0,
       v .1,
       v .2,
@@ -143,7 +146,7 @@ same-length-3 c = put-long (c .before .loop .inv .7)
 returns-3 : tie.Need-returns-3 Inv-loop μ-loop
 returns-3 c =
     let v = c .before .loop .inv in
-    let x = c .before .before .before .before .before .before .args in
+    let x = c .before .before .before .before .before .before .before .args in
     let all : c .before .loop .k ≡ block-count (network-in (now (x .words))) = omega (arith, v .2, v .6, c .loop-test .left) in
     put-as (omega arith) (ap (entry-lines (network-in (now (x .words))) (now (x .outputs)) (now (x .pointers)) (x .scan) (x .first)) all) (v .7)
 
@@ -153,6 +156,7 @@ put-scan-spec =
     (tie.spec
     Inv-loop
     μ-loop
+    count-requires
     loop-holds
     cast-i
     add-record-at

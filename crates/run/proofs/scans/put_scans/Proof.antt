@@ -2,7 +2,7 @@
 use borrow.Author.Needs.{needs}
 use native.Mathlib.Omega.{arith}
 use denote.Ref.{now}
-use mathlib.Core.Path.{_≡_, ap}
+use mathlib.Core.Path.{_≡_, ap, _∙_}
 use Prim.Native.Nat.{ℕ, _+_, _-_, _*_, _≤_}
 use lib.ListN.{length}
 use Rattle.network.specs.declared.checker.Opened.{Opened}
@@ -28,7 +28,7 @@ abbrev μ-loop : tie.MeasureT-loop
 
 -- where the next scan's entries start, and that they lie in the lists
 module _ (c : tie.In-loop Inv-loop μ-loop) where
-  first-is : c .before .loop .j * c .before .before .before .before .before .before .before .args .o .count ≡ c .before .loop .j * block-count (network-in (now (c .before .before .before .before .before .before .before .args .words)))
+  first-is : c .before .loop .j * c .before .before .count .result ≡ c .before .loop .j * block-count (network-in (now (c .before .before .before .before .before .before .before .args .words)))
   first-is = ap (λ (n : ℕ). c .before .loop .j * n) (c .before .loop .inv .2)
 
   outputs-room : c .before .loop .j * block-count (network-in (now (c .before .before .before .before .before .before .before .args .words))) + block-count (network-in (now (c .before .before .before .before .before .before .before .args .words))) ≤ length (now (c .before .before .before .before .before .before .before .args .outputs))
@@ -49,6 +49,9 @@ module _ (c : tie.In-loop Inv-loop μ-loop) where
         next-room (c .before .loop .j) (c .before .before .before .before .before .before .before .args .times) (block-count (network-in (now (c .before .before .before .before .before .before .before .args .words)))) (c .before .before .before .before .before .before .before .args .times * block-count (network-in (now (c .before .before .before .before .before .before .before .args .words)))) (c .loop-test .taken) (omega arith),
       )
 
+count-requires : tie.Need-count-requires Inv-loop μ-loop
+count-requires c κs = search needs
+
 cast-count : tie.Need-cast-count Inv-loop μ-loop
 cast-count c = search needs
 
@@ -59,7 +62,7 @@ loop-holds c =
     let p = b .pre in (
       p .opens,
       p .accepted,
-      ap (λ (o : Opened). o .count) (p .opens),
+      c .count .ensures ∙ ap (λ (o : Opened). o .count) (p .opens),
       p .numbered,
       p .outputs-room,
       p .pointers-room,
@@ -125,6 +128,7 @@ put-scans-spec =
     (tie.spec
     Inv-loop
     μ-loop
+    count-requires
     cast-count
     loop-holds
     cast-first

@@ -24,15 +24,21 @@ abbrev μ-loop : tie.MeasureT-loop
 below : (c : tie.In-loop Inv-loop μ-loop) → c .before .loop .k < block-count (network-in (now (c .before .before .before .before .before .args .words)))
 below c = subst (λ (n : ℕ). c .before .loop .k < n) (c .before .loop .inv .2) (c .loop-test .taken)
 
+count-requires : tie.Need-count-requires Inv-loop μ-loop
+count-requires c κs = search needs
+
 cast-count : tie.Need-cast-count Inv-loop μ-loop
 cast-count c = search needs
+
+sizes-requires : tie.Need-sizes-requires Inv-loop μ-loop
+sizes-requires c κs = search needs
 
 loop-holds : tie.Need-loop-holds Inv-loop μ-loop
 loop-holds c =
     let b = c .before .before .before in
     let ws = now (b .args .words) in
-    let count = count-is ws (b .pre .opens) in
-    (b .pre, sizes-are ws (b .pre .opens), count, omega (arith, count, accepted-good ws (b .pre .accepted) .few), refl, λ i l d. absurd (omega arith))
+    let count = c .before .count .ensures ∙ count-is ws (b .pre .opens) in
+    (b .pre, c .sizes .ensures ∙ sizes-are ws (b .pre .opens), count, omega (arith, count, accepted-good ws (b .pre .accepted) .few), refl, λ i l d. absurd (omega arith))
 
 add-record-at : tie.Need-add-record-at Inv-loop μ-loop
 add-record-at c = search needs
@@ -100,7 +106,9 @@ blocks-of-spec =
     (tie.spec
     Inv-loop
     μ-loop
+    count-requires
     cast-count
+    sizes-requires
     loop-holds
     add-record-at
     record-at-requires

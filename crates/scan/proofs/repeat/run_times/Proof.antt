@@ -1,5 +1,5 @@
 -- `scan::repeat::run_times` meets its contract. The loops keep that the table and the lists are those after j scans and k blocks. Assumes nothing.
-use mathlib.Core.Path.{_≡_, ap, subst}
+use mathlib.Core.Path.{_≡_, ap, _∙_, subst}
 use Prim.Native.Nat.{ℕ, _+_, _-_, _*_, _≤_, _<_}
 use native.Mathlib.Omega.{arith}
 use borrow.Author.Needs.{needs}
@@ -37,13 +37,13 @@ module _ (c : tie.In-loop Inv-loop2 μ-loop2 Inv-loop μ-loop) where
   pointers-room = next-room (c .before .loop .j) (c .before .before .before .before .before .before .before .before .before .args .times) (block-count (network-in (now (c .before .before .before .before .before .before .before .before .before .args .words)))) (length (now (c .before .before .before .before .before .before .before .before .before .args .pointers))) (c .loop-test .taken) (c .before .before .before .before .before .before .before .before .before .pre .pointers-room)
 
   -- where they start
-  first-is : c .before .loop .j * c .before .before .before .before .before .before .before .before .before .args .o .count ≡ c .before .loop .j * block-count (network-in (now (c .before .before .before .before .before .before .before .before .before .args .words)))
-  first-is = ap (λ (n : ℕ). c .before .loop .j * n) (count-is _ (c .before .before .before .before .before .before .before .before .before .pre .opens))
+  first-is : c .before .loop .j * c .before .before .count .result ≡ c .before .loop .j * block-count (network-in (now (c .before .before .before .before .before .before .before .before .before .args .words)))
+  first-is = ap (λ (n : ℕ). c .before .loop .j * n) (c .before .before .count .ensures ∙ count-is _ (c .before .before .before .before .before .before .before .before .before .pre .opens))
 
 -- the next block
 module _ (c : tie.In-loop2 Inv-loop2 μ-loop2 Inv-loop μ-loop) where
   below : c .before .loop2 .k < block-count (network-in (now (c .before .before .before .before .before .before .before .before .before .before .before .args .words)))
-  below = subst (λ (n : ℕ). c .before .loop2 .k < n) (count-is _ (c .before .before .before .before .before .before .before .before .before .before .before .pre .opens)) (c .loop2-test .taken)
+  below = subst (λ (n : ℕ). c .before .loop2 .k < n) (c .before .before .before .before .count .ensures ∙ count-is _ (c .before .before .before .before .before .before .before .before .before .before .before .pre .opens)) (c .loop2-test .taken)
 
   few : c .before .loop2 .k < 128
   few = omega (arith, below, accepted-good (now (c .before .before .before .before .before .before .before .before .before .before .before .args .words)) (c .before .before .before .before .before .before .before .before .before .before .before .pre .accepted) .few)
@@ -54,6 +54,12 @@ module _ (c : tie.In-loop2 Inv-loop2 μ-loop2 Inv-loop μ-loop) where
 
 blocks-of-requires : tie.Need-blocks-of-requires Inv-loop2 μ-loop2 Inv-loop μ-loop
 blocks-of-requires c κs = let b = c .before .before .before .before in record { opens = b .pre .opens; accepted = b .pre .accepted }
+
+sizes-requires : tie.Need-sizes-requires Inv-loop2 μ-loop2 Inv-loop μ-loop
+sizes-requires c κs = search needs
+
+count-requires : tie.Need-count-requires Inv-loop2 μ-loop2 Inv-loop μ-loop
+count-requires c κs = search needs
 
 cast-count : tie.Need-cast-count Inv-loop2 μ-loop2 Inv-loop μ-loop
 cast-count c = search needs
@@ -79,7 +85,7 @@ run-one-requires : tie.Need-run-one-requires Inv-loop2 μ-loop2 Inv-loop μ-loop
 run-one-requires c κs =
     let inside = c .before .before .before .before in
     let scan = inside .before .before in
-    next-ready (so-far inside) (below inside) (outputs-room scan) (pointers-room scan) (sizes-are _ (inside .before .before .before .before .before .before .before .before .before .before .before .pre .opens)) (scan .before .before .before .before .blocks-of .ensures (inside .before .loop2 .k) (below inside) _) (first-is scan)
+    next-ready (so-far inside) (below inside) (outputs-room scan) (pointers-room scan) (scan .before .before .before .sizes .ensures ∙ sizes-are _ (inside .before .before .before .before .before .before .before .before .before .before .before .pre .opens)) (scan .before .before .before .before .blocks-of .ensures (inside .before .loop2 .k) (below inside) _) (first-is scan)
 
 add-k : tie.Need-add-k Inv-loop2 μ-loop2 Inv-loop μ-loop
 add-k c = search needs
@@ -92,7 +98,7 @@ loop2-again c =
     let ran = c .before .before .before .before .before .before in
     let inside = ran .before .before .before .before .before in
     let scan = inside .before .before in
-    λ t outputs pointers u v h. one-more (inside .before .loop2 .inv t outputs pointers u v h) (below inside) u v (sizes-are _ (inside .before .before .before .before .before .before .before .before .before .before .before .pre .opens)) (scan .before .before .before .before .blocks-of .ensures (inside .before .loop2 .k) (below inside) _) (first-is scan) (ran .run-one .ensures)
+    λ t outputs pointers u v h. one-more (inside .before .loop2 .inv t outputs pointers u v h) (below inside) u v (scan .before .before .before .sizes .ensures ∙ sizes-are _ (inside .before .before .before .before .before .before .before .before .before .before .before .pre .opens)) (scan .before .before .before .before .blocks-of .ensures (inside .before .loop2 .k) (below inside) _) (first-is scan) (ran .run-one .ensures)
 
 add-j : tie.Need-add-j Inv-loop2 μ-loop2 Inv-loop μ-loop
 add-j c = search needs
@@ -105,7 +111,7 @@ loop-again c =
     let scan = c .before .before in (
       omega (arith, scan .loop-test .taken),
       scan-done (c .before .loop2 .inv _ _ _ (outputs-room scan) (pointers-room scan) (scan .before .loop .inv .1))
-          (subst (λ (n : ℕ). n ≤ c .before .loop2 .k) (count-is _ (c .before .before .before .before .before .before .before .before .before .before .before .pre .opens)) (c .loop2-test .left)),
+          (subst (λ (n : ℕ). n ≤ c .before .loop2 .k) (scan .before .before .count .ensures ∙ count-is _ (c .before .before .before .before .before .before .before .before .before .before .before .pre .opens)) (c .loop2-test .left)),
     )
 
 same-length : tie.Need-same-length Inv-loop2 μ-loop2 Inv-loop μ-loop
@@ -133,6 +139,8 @@ run-times-spec =
     Inv-loop
     μ-loop
     blocks-of-requires
+    sizes-requires
+    count-requires
     cast-count
     loop-holds
     mul-first
