@@ -130,17 +130,17 @@ def plan_of(dice, shape):
     return plan
 
 
-def block_for(plan, wanted=None):
-    """A block of the kind wanted, or of any, that fits the areas; or None."""
+def block_for(plan, wanted=None, n=None):
+    """A block of the kind and length wanted, or of any, that fits the areas; or None."""
     for _ in range(20):
         kind = wanted or plan.dice.between(1, 8)
         rule = RULES[kind]
-        middle = class_for(plan, rule.middle, rule.middle_classes)
-        top = class_for(plan, rule.top, rule.top_classes)
+        middle = class_for(plan, rule.middle, rule.middle_classes, n or 1)
+        top = class_for(plan, rule.top, rule.top_classes, n or 1)
         if middle in rule.top_classes and plan.dice.chance(40):
             top = middle
         if top is not None and middle is not None:
-            return place_block(plan, kind, top, middle)
+            return place_block(plan, kind, n or length_for(plan, rule, top, middle), top, middle)
     return None
 
 
@@ -160,15 +160,14 @@ def overlapping(plan):
     return Block(kind, n, top, middle, [input_for(plan, percent) for percent in (80, 30, 50)], NO_COILS)
 
 
-def class_for(plan, what, classes):
-    """A class whose area holds the operand at length 1, or None."""
-    fitting = [c for c in classes if c == CONSTANT or plan.sizes[c] >= words_of(what, 1)]
+def class_for(plan, what, classes, n):
+    """A class whose area holds the operand at length n, or None."""
+    fitting = [c for c in classes if c == CONSTANT or plan.sizes[c] >= words_of(what, n)]
     return plan.dice.pick(fitting) if fitting else None
 
 
-def place_block(plan, kind, top, middle):
-    """A block of that kind with its nodes in those classes."""
-    n = length_for(plan, RULES[kind], top, middle)
+def place_block(plan, kind, n, top, middle):
+    """A block of that kind and length with its nodes in those classes."""
     top_node, middle_node = nodes_for(plan, RULES[kind], n, top, middle)
     inputs = [input_for(plan, percent) for percent in (50, 30, 30)]
     coils = [coil_for(plan, middle_node, n) for _ in range(3)]
@@ -394,7 +393,7 @@ Around = namedtuple("Around", "blocks total k last end coils")
 
 def cases():
     """All faults, mixed; those outside the nodes stand there more than once, as they are few."""
-    found = section_cases() + input_cases() * 2 + [case for kinds in ROWS for case in node_cases(kinds)]
+    found = section_cases() + input_cases() * 2 + [case for kinds in ROWS for case in length_cases(kinds) + node_cases(kinds)]
     dice = Dice(0)
     return sorted(found, key=lambda case: dice.random())
 
@@ -410,10 +409,17 @@ def section_cases():
     return [Case(label, (), None, word) for label in sorted(words) for word in words[label]]
 
 
+def length_cases(kinds):
+    """Faults of a block's length, for each kind of a row of the rules, and right lengths that are long."""
+    longest = RULES[kinds[0]].longest
+    lengths = [0, longest] + [longest + 1] * 3 + [128, 255, 256, 65535]
+    return [Case("n", (kind,), None, n) for kind in kinds for n in lengths]
+
+
 def node_cases(kinds):
-    """Faults of a block's length, classes and numbers, for kinds that share a row of the rules."""
+    """Faults of a block's classes and numbers, for kinds that share a row of the rules."""
     rule = RULES[kinds[0]]
-    found = [Case("n", kinds, None, word) for word in [0, 0] + [rule.longest] * 2 + [rule.longest + 1] * 3 + [65535]]
+    found = []
     for name, classes in (("top", rule.top_classes), ("middle", rule.middle_classes)):
         refused = [class_ for class_ in (0, 1, 3, 4, 9, 2, 65535) if class_ not in classes]
         found += [Case(name + " class", kinds, None, class_) for class_ in refused] * 2
@@ -528,14 +534,15 @@ def append(dice, data, i):
 
 
 # The share of each way in a hundred.
-WAYS = [(56, (alone, keep)), (8, (anywhere, keep)), (10, (in_block, keep)), (4, (beside, keep)),
-        (13, (alone, cut_later)), (9, (alone, append))]
+WAYS = [(38, (alone, keep)), (8, (anywhere, keep)), (10, (in_block, keep)), (12, (beside, keep)),
+        (18, (alone, cut_later)), (14, (alone, append))]
 
 
 def damaged(dice, case):
     """A file with the fault of a case, and perhaps more."""
-    plan = plan_of(dice, damaged_shape(dice))
-    k = put_kind(plan, dice.pick(case.kinds)) if case.kinds else None
+    long = case.label == "n" and 0 < case.word < 65535 and dice.chance(70)
+    plan = plan_of(dice, wide(dice) if long else damaged_shape(dice))
+    k = put_kind(plan, dice.pick(case.kinds), case.word if long else None) if case.kinds else None
     file = File(plan)
     more, end = share_of(dice, WAYS)
     i = spoil(dice, file, case, k)
@@ -551,12 +558,18 @@ def damaged_shape(dice):
     return shape
 
 
-def put_kind(plan, kind):
-    """Let some block be of that kind, where one fits, and give its number."""
+def wide(dice):
+    """Areas that hold the lengths which are refused, so that nothing else is wrong with them."""
+    shape = long_blocks(dice)
+    return shape._replace(sizes={**shape.sizes, COILS: 128, HOLDING: 600})
+
+
+def put_kind(plan, kind, n):
+    """Let some block be of that kind, and of length n where one is given, where it fits; gives its number."""
     k = plan.dice.between(1, max(1, len(plan.blocks)))
     later = plan.blocks[k:]
     del plan.blocks[k - 1 :]
-    block = block_for(plan, kind) or block_for(plan)
+    block = block_for(plan, kind, n) or block_for(plan)
     plan.blocks += ([block] if block else []) + later
     return k
 

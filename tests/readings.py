@@ -52,14 +52,17 @@ for name, limit in (("GREATEST_CONSTANT", 999), ("GREATEST_COUNT", 128), ("GREAT
     for wrong_limit in (limit - 1, limit + 1):
         reading("%s %d" % (name.lower(), wrong_limit), "the limit is %d" % wrong_limit,
                 "%s = %d\n" % (name, limit), "%s = %d\n" % (name, wrong_limit))
-for name, row in (("logic", "LOGIC_RULE = Rule(MATRIX, (0, 1, 3, 4), MATRIX, (0, 4), 100)"),
-                  ("CMPR", "CMPR: Rule(MATRIX, (0, 1, 3, 4), POINTER_AND_MATRIX, (4,), 100)"),
-                  ("MBIT", "MBIT: Rule(POINTER, (3, 4, 9), MATRIX, (0, 4), 255)"),
-                  ("SENS", "SENS: Rule(POINTER, (3, 4, 9), MATRIX, (0, 1, 3, 4), 255)")):
-    limit = int(row[-4:-1])
-    for wrong_limit in (limit - 1, limit + 1):
-        reading("%s longest %d" % (name, wrong_limit), "n goes to %d" % wrong_limit,
-                row, row.replace("%d)" % limit, "%d)" % wrong_limit))
+for name, row, wrong_limits in (
+        ("logic", "LOGIC_RULE = Rule(MATRIX, (0, 1, 3, 4), MATRIX, (0, 4), 100)", (99, 101, 255)),
+        ("CMPR", "CMPR: Rule(MATRIX, (0, 1, 3, 4), POINTER_AND_MATRIX, (4,), 100)", (99, 101, 255)),
+        ("MBIT", "MBIT: Rule(POINTER, (3, 4, 9), MATRIX, (0, 4), 255)", (100, 254, 256)),
+        ("SENS", "SENS: Rule(POINTER, (3, 4, 9), MATRIX, (0, 1, 3, 4), 255)", (100, 254, 256))):
+    for wrong_limit in wrong_limits:
+        reading("%s longest %d" % (name, wrong_limit), "n goes to %d" % wrong_limit, row, "%s%d)" % (row[:-4], wrong_limit))
+for kind in ("AND", "OR", "XOR", "COMP", "BROT"):
+    for wrong_limit in (99, 101, 255):
+        reading("%s longest %d" % (kind, wrong_limit), "n goes to %d for %s alone" % (wrong_limit, kind),
+                "    %s: LOGIC_RULE,\n" % kind, "    %s: LOGIC_RULE._replace(longest=%d),\n" % (kind, wrong_limit))
 reading("n of 0", "a length of 0 is allowed", "n < 1 or n > longest", "n > longest")
 reading("no scans", "0 scans are allowed", "scans < 1 or scans", "scans")
 reading("kind 0", "kind 0 is AND", "words.refuse_when(kind < 1 or kind > 8, 4)",

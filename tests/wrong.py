@@ -104,9 +104,11 @@ def main():
         results = list(zip(READINGS, pool.map(judge, tasks, chunksize=1)))
     print("\n".join((table_lines if options.table else text_lines)(results)))
     missed = [reading.name for reading, found in results if found.files == 0]
-    print("\n%d wrong readings, %d files from seed %d: %s" % (
-        len(READINGS), options.count, options.seed, "not told apart: " + ", ".join(missed) if missed else "all told apart"))
-    return 1 if missed else 0
+    if missed:
+        print("\nnot told apart: " + ", ".join(missed))
+        return 1
+    print("\n%d wrong readings told apart by %d files from seed %d" % (len(READINGS), options.count, options.seed))
+    return 0
 
 
 if __name__ == "__main__":
