@@ -274,7 +274,12 @@ def add_probe(plan, numbers):
         shown = Node(HOLDING, plan.sizes[HOLDING])
         coils = Node(COILS, 16 * plan.dice.below(plan.sizes[COILS]) + 1)
         plan.blocks.append(Block(COMP, 1, coils, shown, ALWAYS, NO_COILS))
-    plan.blocks.append(Block(SENS, 1, shown, Node(HOLDING, 1), NEVER, NO_COILS))
+    plan.blocks.append(probe_of(shown))
+
+
+def probe_of(register):
+    """A block without power that prints the register as its pointer."""
+    return Block(SENS, 1, register, Node(HOLDING, 1), NEVER, NO_COILS)
 
 
 def destination_registers(plan, block):
@@ -335,11 +340,11 @@ def own_matrix(block):
 class File:
     """A bench file's words; `labels` names each one and the block it belongs to (0 for none)."""
 
-    def __init__(self, plan):
+    def __init__(self, plan, areas):
         self.plan = plan
         self.words = []
         self.labels = []
-        self.put_all(plan, image_for(plan))
+        self.put_all(plan, areas)
 
     def put(self, label, word, k=0):
         self.words.append(word)
@@ -377,6 +382,10 @@ class File:
 
     def data(self):
         return b"".join(word.to_bytes(2, "big") for word in self.words)
+
+
+def file_for(plan):
+    return File(plan, image_for(plan))
 
 
 # ---- Faults --------------------------------------------------------------------------------------
@@ -543,7 +552,7 @@ def damaged(dice, case):
     long = case.label == "n" and 0 < case.word < 65535 and dice.chance(70)
     plan = plan_of(dice, wide(dice) if long else damaged_shape(dice))
     k = put_kind(plan, dice.pick(case.kinds), case.word if long else None) if case.kinds else None
-    file = File(plan)
+    file = file_for(plan)
     more, end = share_of(dice, WAYS)
     i = spoil(dice, file, case, k)
     more(dice, file, i)
@@ -576,7 +585,7 @@ def put_kind(plan, kind, n):
 
 def ragged(dice):
     """A file with a bad end alone, or with a word changed at random."""
-    file = File(plan_of(dice, shape_of(dice) if dice.chance(10) else small(dice)))
+    file = file_for(plan_of(dice, shape_of(dice) if dice.chance(10) else small(dice)))
     data = file.data()
     roll = dice.below(100)
     if roll < 55:
@@ -594,7 +603,7 @@ def ragged(dice):
 def bench_file(seed):
     dice = Dice(seed)
     if seed % 2 == 0:
-        return File(plan_of(dice, shape_of(dice))).data()
+        return file_for(plan_of(dice, shape_of(dice))).data()
     index = seed // 2
     if index % 6 == 5:
         return ragged(dice)
@@ -603,7 +612,7 @@ def bench_file(seed):
 
 def largest_file():
     """As much of everything as the document allows."""
-    return File(plan_of(Dice(1), Shape(dict(LIMITS), GREATEST_COUNT, GREATEST_SCANS))).data()
+    return file_for(plan_of(Dice(1), Shape(dict(LIMITS), GREATEST_COUNT, GREATEST_SCANS))).data()
 
 
 if __name__ == "__main__":
