@@ -72,7 +72,7 @@ returns-5 c =
     write-short (x .sizes) (x .k) (x .block) (now (x .buffer)) (sym (c .before .before .before .before .before .before .before .allowed .ensures) ∙ not-false _ (c .before .before .before .before .before .before .if1 .left))
     (in-count most-blocks (x .k) (c .before .before .before .before .before .if2 .left) (c .before .before .before .before .if3 .left))
     (ap (λ (y : Verdict). y .number) (sym v) ∙ c .before .if4 .left)
-    (c .if5 .taken) in
+    (λ z. omega (arith, z, c .if5 .taken)) in
     refused (x .sizes) (x .k) (x .block) (now (x .buffer)) e (λ z. omega arith)
 
 spell-requires : tie.Need-spell-requires
