@@ -68,24 +68,26 @@ same-length-2 c = search needs
 same-length-3 : tie.Need-same-length-3
 same-length-3 c = search needs
 
+-- told from the last write, that of the pointer's entry
 returns : tie.Need-returns
 unfolding pointer-of
 returns c =
-    let b = c .before .before .before .before .before .before .before .before .before .before .before .before .before .before in
+    let last = c in
+    let b = last .before .before .before .before .before .before .before .before .before .before .before .before .before .before in
     let x = b .args in
     let t = now (x .table) in
-    let ran = c .before .before .before .before .before .run .ensures in
+    let ran = last .before .before .before .before .before .run .ensures in
     let on =
-    c .before .before .before .before .before .before .before .power-on .ensures
+    last .before .before .before .before .before .before .before .power-on .ensures
     ∙ ap (λ (m : ℕ). power-on (areas-only (x .sizes)) t (map unpacked (take m (drop (x .first) (now (x .outputs))))) (x .one .block .inputs)) (so-many (x .first) (x .k)) in
     record {
       table-after = ran .leaves ∙ ap (block-table (areas-only (x .sizes)) (x .one .block) t) on;
       entry-after =
           ap (set (now (x .outputs)) (x .first + x .k))
-          (c .before .before .packed .ensures ∙ ap packed (ran .answers ∙ ap (block-outputs (areas-only (x .sizes)) (x .one .block) t) on));
+          (last .before .before .packed .ensures ∙ ap packed (ran .answers ∙ ap (block-outputs (areas-only (x .sizes)) (x .one .block) t) on));
       pointer-after =
           ap (set (now (x .pointers)) (x .first + x .k))
-          (c .pointer-of .ensures ∙ ap (λ (o : Located). pointer-shown o (c .before .before .before .before .before .run .last .0)) (b .pre .lies));
+          (last .pointer-of .ensures ∙ ap (λ (o : Located). pointer-shown o (last .before .before .before .before .before .run .last .0)) (b .pre .lies));
     }
 
 pub run-one-spec : {M : Type 1} → statement M
