@@ -1,13 +1,13 @@
 -- What a block of an accepted network writes, by its kind: a destination and a pointer, where each of them lies and how long it is.
 -- This is the one place where the kinds are gone through; what a block leaves alone follows from it. Assumes nothing.
 use mathlib.Core.Path.{_≡_, refl, sym, ap, _∙_, subst}
-use mathlib.Core.Bool.{Bool, true, false, cond, _&&_}
+use mathlib.Core.Bool.{Bool, true, false, not, cond, _&&_}
 use mathlib.Core.List.{List, [], _∷_}
 use mathlib.Core.Logic.{_⊎_, inl, inr, ⊎-elim}
 use mathlib.Core.Option.{Option, none, some}
 use Prim.Native.Nat.{ℕ, zero, suc, _+_, _*_, _≤_}
 use native.Mathlib.Omega.{arith}
-use borrow.Author.Tests.{eqb-true}
+use borrow.Author.Tests.{eqb-true, eqb-false, ltb-false}
 use lib.Dec.{eqb, ltb}
 use lib.ListN.{length}
 use Rattle.bits.specs.Bit.{matrix}
@@ -29,11 +29,13 @@ use Rattle.rules.proofs.KindFacts.{Writable, KindFacts, accepted-means}
 use Rattle.blocks.specs.declared.Power.{Power}
 use Rattle.blocks.specs.Kind.{kind-of}
 use Rattle.blocks.specs.View.{View, first-word, view}
-use Rattle.blocks.specs.Effect.{Effect, effect, logic, zeroed, found, compare, rotate, modify, at-one, left-at-one, sense, effect-of}
+use Rattle.blocks.specs.Effect.{Change, Effect, effect, into, increased, logic, zeroed, found, compare, rotate, modify, at-one, left-at-one, sense, effect-of}
 use Rattle.blocks.specs.Work.{pointer-node, one-word, effect-on}
+use Rattle.blocks.specs.Effect.Change.{stays, becomes, puts}
 use Rattle.blocks.specs.Truths.{Runs}
+use Rattle.blocks.proofs.Puts.{Makes}
 
--- ---- what is true of each matrix that is to be written, of which there is one or none
+-- ---- what is true of the word that a pointer becomes, if it is written
 pub record Each (P : List ℕ → Type 0) (o : Option (List ℕ)) : Type 0 where
   pub each : (m : List ℕ) → o ≡ some m → P m
 
@@ -46,11 +48,6 @@ one {P} {m} h = record { each = λ n e. subst P (same n e) h }
     same : (n : List ℕ) → some m ≡ some n → m ≡ n
     same n e = cc
 
-unless : {P : List ℕ → Type 0} {o : Option (List ℕ)} (c : Bool) → Each P o → Each P (cond c none o)
-unless true h = nothing
-unless false h = h
-
--- of a pointer, which is one word
 any-word : {P : List ℕ → Type 0} → ((w : ℕ) → P (w ∷ [])) → (o : Option ℕ) → Each P (one-word o)
 any-word h none = nothing
 any-word h (some w) = one (h w)
@@ -61,56 +58,64 @@ held-word true c x o h k = any-word (h refl) (cond c (some x) o)
 held-word false c x o h k = k
 
 -- ---- what is true of all that an effect writes
-pub record Writes (D P : List ℕ → Type 0) (e : Effect) : Type 0 where
-  pub destination : Each D (e .destination)
+pub record Writes (D : Type 0) (P : List ℕ → Type 0) (n : ℕ) (e : Effect) : Type 0 where
+  pub destination : Makes D n (e .destination)
   pub pointer : Each P (one-word (e .pointer))
 
-made : {D P : List ℕ → Type 0} {d : Option (List ℕ)} {p : Option ℕ} {middle bottom : Bool} → Each D d → Each P (one-word p) → Writes D P (effect d p middle bottom)
-made h k = record { destination = h; pointer = k }
+made : {D : Type 0} {P : List ℕ → Type 0} (n : ℕ) (d : Change) {p : Option ℕ} {middle bottom : Bool}
+    → Makes D n d → Each P (one-word p) → Writes D P n (effect d p middle bottom)
+made n d h k = record { destination = h; pointer = k }
 
-either : {D P : List ℕ → Type 0} {x y : Effect} (c : Bool) → Writes D P x → Writes D P y → Writes D P (cond c x y)
+either : {D : Type 0} {P : List ℕ → Type 0} {n : ℕ} {x y : Effect} (c : Bool) → Writes D P n x → Writes D P n y → Writes D P n (cond c x y)
 either true h k = h
 either false h k = k
 
--- by the rule of each kind: AND, OR, XOR, COMP and BROT write a destination of n words, CMPR a pointer, MBIT both, SENS a pointer; MBIT and SENS
--- write a pointer only where it is held
-module _ {D P : List ℕ → Type 0} (n : ℕ) (v : View) (on : Power) where
-  logic-writes : (operation : Operation) → ((f : ℕ → Bool) → D (matrix n f)) → Writes D P (logic operation n v on)
+-- by the rule of each kind: AND, OR, XOR, COMP and BROT write a destination of n words, CMPR a pointer, MBIT a bit of n words and a pointer, SENS
+-- a pointer; MBIT and SENS write a pointer only where it is held
+module _ {D : Type 0} {P : List ℕ → Type 0} (n : ℕ) (v : View) (on : Power) where
+  logic-writes : (operation : Operation) → D → Writes D P n (logic operation n v on)
   unfolding logic
-  logic-writes operation h = either (on .top) (made (one (h _)) nothing) (made nothing nothing)
+  logic-writes operation h = either (on .top) (made n (becomes (matrix n _)) (h, matrix-length n _) nothing) (made n stays tt nothing)
 
-  rotate-writes : ((f : ℕ → Bool) → D (matrix n f)) → Writes D P (rotate n v on)
+  rotate-writes : D → Writes D P n (rotate n v on)
   unfolding rotate
-  rotate-writes h = either (on .top) (made (one (h _)) nothing) (made nothing nothing)
+  rotate-writes h = either (on .top) (made n (becomes (matrix n _)) (h, matrix-length n _) nothing) (made n stays tt nothing)
 
-  found-writes : ((w : ℕ) → P (w ∷ [])) → (o : Option ℕ) → Writes D P (found n v o)
+  found-writes : ((w : ℕ) → P (w ∷ [])) → (o : Option ℕ) → Writes D P n (found n v o)
   unfolding found
-  found-writes h none = made nothing (any-word h (some (16 * n)))
-  found-writes h (some p) = made nothing (any-word h (some p))
+  found-writes h none = made n stays tt (any-word h (some (16 * n)))
+  found-writes h (some p) = made n stays tt (any-word h (some p))
 
-  compare-writes : ((w : ℕ) → P (w ∷ [])) → Writes D P (compare n v on)
+  compare-writes : ((w : ℕ) → P (w ∷ [])) → Writes D P n (compare n v on)
   unfolding compare
   compare-writes h =
       either (on .top)
       (found-writes h (first-differing (v .source) (v .destination) n (in-range (zeroed n v on) .at)))
-      (made nothing (any-word h (cond (on .middle) (some (zeroed n v on .at)) none)))
+      (made n stays tt (any-word h (cond (on .middle) (some (zeroed n v on .at)) none)))
 
   module _ (held : Bool) (h : held ≡ true → (w : ℕ) → P (w ∷ [])) where
-    modify-writes : ((f : ℕ → Bool) → D (matrix n f)) → Writes D P (modify held n v on)
+    modify-writes : D → Writes D P n (modify held n v on)
     unfolding modify
-    modify-writes d =
-        either (on .top)
-        (either (ltb (16 * n) (v .pointer)) (made nothing nothing)
-        (made (unless (eqb (v .pointer) 0) (one (d _))) (held-word held (on .bottom) _ none h nothing)))
-        (made nothing nothing)
+    modify-writes d = either (on .top) (go (ltb (16 * n) (v .pointer)) refl (eqb (v .pointer) 0) refl) (made n stays tt nothing)
+      where
+        new : Each P (one-word (increased (held && on .bottom) none (into n (v .pointer))))
+        new = held-word held (on .bottom) _ none h nothing
 
-    sense-writes : Writes D P (sense held n v on)
+        go : (over : Bool) → ltb (16 * n) (v .pointer) ≡ over → (none-there : Bool) → eqb (v .pointer) 0 ≡ none-there
+            → Writes D P n (cond over (effect stays none false true)
+            (effect (cond none-there stays (puts (v .pointer) (on .middle))) (increased (held && on .bottom) none (into n (v .pointer))) (on .middle && not none-there) false))
+        go true e z f = made n stays tt nothing
+        go false e true f = made n stays tt new
+        go false e false f =
+            made n (puts (v .pointer) (on .middle)) (d, omega (arith, eqb-false (v .pointer) 0 f), ltb-false (16 * n) (v .pointer) e) new
+
+    sense-writes : Writes D P n (sense held n v on)
     unfolding sense
     sense-writes =
         either (on .top)
-        (either (ltb (16 * n) (at-one held n v on .at)) (made nothing left)
-        (made nothing (held-word held (on .middle) _ (left-at-one held n v on) h left)))
-        (made nothing left)
+        (either (ltb (16 * n) (at-one held n v on .at)) (made n stays tt left)
+        (made n stays tt (held-word held (on .middle) _ (left-at-one held n v on) h left)))
+        (made n stays tt left)
       where
         left : Each P (one-word (left-at-one held n v on))
         left = held-word held (on .bottom) _ none h nothing
@@ -140,12 +145,11 @@ node-fits net classes node words g = ⊎-elim
     (λ e. coils-fit net (node .class) (node .number) words e (g .placed (λ q. omega arith)))
     (λ e. holding-fit net (node .class) (node .number) words e (g .placed (λ q. omega arith)))
 
--- ---- a block's destination: as long as its matrices, and not that of a CMPR or a SENS
-pub record Destination (net : Network) (b : Block) (m : List ℕ) : Type 0 where
-  pub as-long : length m ≡ b .n
+-- ---- a block's destination: n words, and not that of a CMPR or a SENS
+pub record Destination (net : Network) (b : Block) : Type 0 where
   pub no-compare : b .kind ≡ 5 → ⊥
   pub no-sense : b .kind ≡ 7 → ⊥
-  pub fits : Fits net (first-word net (b .middle)) (length m)
+  pub fits : Fits net (first-word net (b .middle)) (b .n)
 
 -- its pointer: one word, that of a CMPR, an MBIT or a SENS, in a holding register
 pub record Register (net : Network) (b : Block) (m : List ℕ) : Type 0 where
@@ -171,13 +175,8 @@ module _ (net : Network) (earlier : ℕ) (b : Block) (g : GoodBlock (net .sizes)
       one-at-least true = omega arith
       one-at-least false = g .length-low
 
-  destined : Writable (b .middle) → (b .kind ≡ 5 → ⊥) → (b .kind ≡ 7 → ⊥) → (f : ℕ → Bool) → Destination net b (matrix (b .n) f)
-  destined w c s f = record {
-    as-long = matrix-length (b .n) f;
-    no-compare = c;
-    no-sense = s;
-    fits = subst (Fits net (first-word net (b .middle))) (sym (matrix-length (b .n) f)) (middle-fits w);
-  }
+  destined : Writable (b .middle) → (b .kind ≡ 5 → ⊥) → (b .kind ≡ 7 → ⊥) → Destination net b
+  destined w c s = record { no-compare = c; no-sense = s; fits = middle-fits w }
 
   register : (k : ℕ) → b .kind ≡ k → 5 ≤ k → k ≤ 7 → pointer-node (kind-of k) b .class ≡ 4 → Fits net (first-word net (pointer-node (kind-of k) b)) 1
       → (w : ℕ) → Register net b (w ∷ [])
@@ -190,7 +189,7 @@ module _ (net : Network) (earlier : ℕ) (b : Block) (g : GoodBlock (net .sizes)
   }
 
   writes-as : (k : ℕ) → b .kind ≡ k → 1 ≤ k → k ≤ 8 → (v : View) (on : Power)
-      → Writes (Destination net b) (Register net b) (effect-of (kind-of k) (eqb (pointer-node (kind-of k) b .class) 4) (b .n) v on)
+      → Writes (Destination net b) (Register net b) (b .n) (effect-of (kind-of k) (eqb (pointer-node (kind-of k) b .class) 4) (b .n) v on)
   unfolding kind-of effect-of
   writes-as zero e l u v on = absurd (omega arith)
   writes-as (suc zero) e l u v on = logic-writes (b .n) v on And (destined (facts .two (inl (omega arith)) .writable) (λ q. omega arith) (λ q. omega arith))
@@ -209,5 +208,5 @@ module _ (net : Network) (earlier : ℕ) (b : Block) (g : GoodBlock (net .sizes)
   writes-as (suc (suc (suc (suc (suc (suc (suc (suc zero)))))))) e l u v on = rotate-writes (b .n) v on (destined (facts .two (inr e) .writable) (λ q. omega arith) (λ q. omega arith))
   writes-as (suc (suc (suc (suc (suc (suc (suc (suc (suc k))))))))) e l u v on = absurd (omega arith)
 
-pub writes : (net : Network) (earlier : ℕ) (b : Block) (t : List ℕ) → Runs net earlier b t → (on : Power) → Writes (Destination net b) (Register net b) (effect-on net b t on)
+pub writes : (net : Network) (earlier : ℕ) (b : Block) (t : List ℕ) → Runs net earlier b t → (on : Power) → Writes (Destination net b) (Register net b) (b .n) (effect-on net b t on)
 writes net earlier b t r on = writes-as net earlier b (r .good) (b .kind) refl (r .good .kind-low) (r .good .kind-high) (view (kind-of (b .kind)) net b t) on

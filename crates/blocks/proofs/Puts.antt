@@ -13,11 +13,15 @@ use lib.ListN.{length, getD, take, drop, length-append, length-drop, List·getD-
 use lib.Seq.{getD-append-add, getD-take, getD-drop, length-take-le}
 use Rattle.bits.specs.Bit.{odd, bit, matrix}
 use Rattle.bits.proofs.Matrix.{matrix-length, bit-matrix}
+use Rattle.bits.proofs.Tests.{eqb-iff}
 use Rattle.runs.specs.Run.{run, placed}
+use Rattle.matrix.specs.Single.{bit-put}
 use Rattle.matrix.proofs.Runs.{run-at}
 use Rattle.network.specs.Network.{Network}
-use Rattle.blocks.specs.Work.{matrix-put, coil-put}
-use Rattle.blocks.specs.Truths.{matrix-bit, coil-bit, or-stays}
+use Rattle.blocks.specs.Effect.{Change}
+use Rattle.blocks.specs.Effect.Change.{stays, becomes, puts}
+use Rattle.blocks.specs.Work.{matrix-put, change-put, coil-put}
+use Rattle.blocks.specs.Truths.{matrix-bit, change-bit, coil-bit, or-stays}
 
 -- equal words have equal bits
 same-bit : (x y : List ℕ) (i j : ℕ) → i % 16 ≡ j % 16 → getD x (i / 16) 0 ≡ getD y (j / 16) 0 → bit x (suc i) ≡ bit y (suc j)
@@ -97,6 +101,16 @@ placed-length t s m h =
     ∙ ap₂ _+_ (length-append (take s t) m ∙ ap (λ (k : ℕ). k + length m) (length-take-le s t (omega arith))) (length-drop (s + length m) t)
     ∙ omega arith
 
+-- ---- a matrix in its place
+matrix-bits : (t : List ℕ) (s : ℕ) (m : List ℕ) → s + length m ≤ length t → (p : ℕ) → bit (placed t s m) p ≡ or-stays (matrix-bit s (some m) p) (bit t p)
+matrix-bits t s m h p = go (ltb (16 * s) p) refl (leb p (16 * (s + length m))) refl
+  where
+    go : (a : Bool) → ltb (16 * s) p ≡ a → (c : Bool) → leb p (16 * (s + length m)) ≡ c
+        → bit (placed t s m) p ≡ or-stays (cond (a && c) (some (bit m (p - 16 * s))) none) (bit t p)
+    go false e c f = bit-outside t s m h p (inl (ltb-false _ _ e))
+    go true e true f = bit-inside t s m h p (ltb-true _ _ e) (leb-true _ _ f)
+    go true e false f = bit-outside t s m h p (inr (leb-false _ _ f))
+
 -- ---- a matrix that is to be written, if there is one
 abbrev pub Room : ℕ → ℕ → Option (List ℕ) → Type 0
 Room words s o = (m : List ℕ) → o ≡ some m → s + length m ≤ words
@@ -110,13 +124,7 @@ pub put-bits : (s : ℕ) (o : Option (List ℕ)) (t : List ℕ) → Room (length
     → bit (matrix-put s o t) p ≡ or-stays (matrix-bit s o p) (bit t p)
 unfolding matrix-put
 put-bits s none t h p = refl
-put-bits s (some m) t h p = go (ltb (16 * s) p) refl (leb p (16 * (s + length m))) refl
-  where
-    go : (a : Bool) → ltb (16 * s) p ≡ a → (c : Bool) → leb p (16 * (s + length m)) ≡ c
-        → bit (placed t s m) p ≡ or-stays (cond (a && c) (some (bit m (p - 16 * s))) none) (bit t p)
-    go false e c f = bit-outside t s m (h m refl) p (inl (ltb-false _ _ e))
-    go true e true f = bit-inside t s m (h m refl) p (ltb-true _ _ e) (leb-true _ _ f)
-    go true e false f = bit-outside t s m (h m refl) p (inr (leb-false _ _ f))
+put-bits s (some m) t h p = matrix-bits t s m (h m refl) p
 
 -- what lies outside it stays
 pub put-spares : (s : ℕ) (o : Option (List ℕ)) (t : List ℕ) → Room (length t) s o → (p : ℕ) → ((m : List ℕ) → o ≡ some m → Off s (length m) p)
@@ -131,72 +139,141 @@ unfolding matrix-put
 put-spares-word s none t h k off = refl
 put-spares-word s (some m) t h k off = word-outside t s m (h m refl) k (off m refl)
 
--- ---- a coil
-coil-area : (net : Network) (number : ℕ) (on : Bool) (t : List ℕ) → List ℕ
-coil-area net number on t = matrix (net .sizes .coils) (λ p. cond (eqb p number) on (bit (run t 0 (net .sizes .coils)) p))
+-- ---- one bit of n words put
+module _ (t : List ℕ) (d n p : ℕ) (on : Bool) (h : d + n ≤ length t) where
+  area : List ℕ
+  area = matrix n (λ q. cond (eqb q p) on (bit (run t d n) q))
 
-module _ (net : Network) (number : ℕ) (on : Bool) (t : List ℕ) (h : net .sizes .coils ≤ length t) where
-  long : length (coil-area net number on t) ≡ net .sizes .coils
-  unfolding coil-area
-  long = matrix-length (net .sizes .coils) (λ p. cond (eqb p number) on (bit (run t 0 (net .sizes .coils)) p))
+  long : length area ≡ n
+  unfolding area
+  long = matrix-length n (λ q. cond (eqb q p) on (bit (run t d n) q))
 
-  room : 0 + length (coil-area net number on t) ≤ length t
+  room : d + length area ≤ length t
   room = omega (arith, long)
 
-  area-bit : (p : ℕ) → 1 ≤ p → p ≤ 16 * net .sizes .coils → bit (coil-area net number on t) p ≡ cond (eqb p number) on (bit t p)
-  unfolding coil-area
+  one-length : length (bit-put t d n p on) ≡ length t
+  unfolding area
+  one-length = placed-length t d area room
+
+  -- the words outside stay
+  one-word-outside : (k : ℕ) → (k < d) ⊎ (d + n ≤ k) → getD (bit-put t d n p on) k 0 ≡ getD t k 0
+  unfolding area
+  one-word-outside k o = word-outside t d area room k (⊎-elim inl (λ l. inr (omega (arith, long))) o)
+
+  -- and the bits outside, if the position is one of the n words
+  area-bit : (q : ℕ) → 1 ≤ q → q ≤ 16 * n → bit area q ≡ cond (eqb q p) on (bit t (16 * d + q))
+  unfolding area
   area-bit zero l u = absurd (omega arith)
   area-bit (suc i) l u =
-      bit-matrix (net .sizes .coils) (λ p. cond (eqb p number) on (bit (run t 0 (net .sizes .coils)) p)) i (omega arith)
-      ∙ ap (cond (eqb (suc i) number) on) (run-bits t 0 (net .sizes .coils) (suc i) l u ∙ ap (bit t) (omega arith))
+      bit-matrix n (λ q. cond (eqb q p) on (bit (run t d n) q)) i (omega arith)
+      ∙ ap (cond (eqb (suc i) p) on) (run-bits t d n (suc i) l u)
 
-  pub coil-length : length (coil-put net number on t) ≡ length t
-  unfolding coil-put coil-area
-  coil-length = go (eqb number 0)
+  one-outside : (q : ℕ) → Off d n q → bit (bit-put t d n p on) q ≡ bit t q
+  unfolding area
+  one-outside q o = bit-outside t d area room q (⊎-elim inl (λ l. inr (omega (arith, long))) o)
+
+  one-bits : 1 ≤ p → p ≤ 16 * n → (q : ℕ) → bit (bit-put t d n p on) q ≡ or-stays (cond (eqb q (16 * d + p)) (some on) none) (bit t q)
+  unfolding area
+  one-bits low high q = go (ltb (16 * d) q) refl (leb q (16 * (d + n))) refl
     where
-      go : (a : Bool) → length (cond a t (placed t 0 (coil-area net number on t))) ≡ length t
-      go true = refl
-      go false = placed-length t 0 (coil-area net number on t) room
-
-  -- the words after the coil area stay
-  pub coil-word : (k : ℕ) → net .sizes .coils ≤ k → getD (coil-put net number on t) k 0 ≡ getD t k 0
-  unfolding coil-put coil-area
-  coil-word k l = go (eqb number 0)
-    where
-      go : (a : Bool) → getD (cond a t (placed t 0 (coil-area net number on t))) k 0 ≡ getD t k 0
-      go true = refl
-      go false = word-outside t 0 (coil-area net number on t) room k (inr (omega (arith, long)))
-
-  pub coil-bits : number ≤ 16 * net .sizes .coils → (p : ℕ) → bit (coil-put net number on t) p ≡ or-stays (coil-bit number on p) (bit t p)
-  unfolding coil-put coil-area
-  coil-bits l p = go (eqb number 0) refl (eqb p number) refl (leb 1 p) refl (leb p (16 * net .sizes .coils)) refl
-    where
-      area : List ℕ
-      area = coil-area net number on t
-
-      here : (b : Bool) → cond b on (bit t p) ≡ or-stays (cond b (some on) none) (bit t p)
+      here : (b : Bool) → cond b on (bit t q) ≡ or-stays (cond b (some on) none) (bit t q)
       here true = refl
       here false = refl
 
-      outside : eqb p number ≡ false → (b : Bool) → eqb p number ≡ b → bit t p ≡ or-stays (cond b (some on) none) (bit t p)
-      outside e true f = absurd (false≢true (sym e ∙ f))
-      outside e false f = refl
+      elsewhere : (q ≡ 16 * d + p → ⊥) → bit t q ≡ or-stays (cond (eqb q (16 * d + p)) (some on) none) (bit t q)
+      elsewhere e = ap (λ (b : Bool). or-stays (cond b (some on) none) (bit t q)) (sym (ne-eqb q (16 * d + p) e))
 
-      go : (a : Bool) → eqb number 0 ≡ a → (b : Bool) → eqb p number ≡ b → (c : Bool) → leb 1 p ≡ c → (d : Bool) → leb p (16 * net .sizes .coils) ≡ d
-          → bit (cond a t (placed t 0 area)) p ≡ or-stays (cond a none (cond b (some on) none)) (bit t p)
-      go true e b f c g d k = refl
-      go false e b f true g true k =
-          bit-inside t 0 area room p (omega (arith, leb-true 1 p g)) (omega (arith, long, leb-true p (16 * net .sizes .coils) k))
-          ∙ ap (bit area) (omega arith)
-          ∙ area-bit p (leb-true 1 p g) (leb-true p (16 * net .sizes .coils) k)
-          ∙ ap (λ (x : Bool). cond x on (bit t p)) f
-          ∙ here b
-      go false e b f true g false k =
-          bit-outside t 0 area room p (inr (omega (arith, long, leb-false p (16 * net .sizes .coils) k)))
-          ∙ outside (ne-eqb p number (λ q. omega (arith, leb-false p (16 * net .sizes .coils) k))) b f
-      go false e b f false g d k =
-          bit-outside t 0 area room p (inl (omega (arith, leb-false 1 p g)))
-          ∙ outside (ne-eqb p number (λ q. eqb-false number 0 e (omega (arith, leb-false 1 p g)))) b f
+      inside : (l : 16 * d < q) → (u : q ≤ 16 * (d + n)) → bit (placed t d area) q ≡ or-stays (cond (eqb q (16 * d + p)) (some on) none) (bit t q)
+      inside l u =
+          let back : 16 * d + (q - 16 * d) ≡ q = omega arith in
+          bit-inside t d area room q l (omega (arith, long))
+          ∙ area-bit (q - 16 * d) (omega arith) (omega arith)
+          ∙ ap₂ (λ (b : Bool) (k : ℕ). cond b on (bit t k))
+          (eqb-iff (q - 16 * d) p q (16 * d + p) (λ e. omega arith) (λ e. omega arith)) back
+          ∙ here (eqb q (16 * d + p))
+
+      go : (a : Bool) → ltb (16 * d) q ≡ a → (c : Bool) → leb q (16 * (d + n)) ≡ c
+          → bit (placed t d area) q ≡ or-stays (cond (eqb q (16 * d + p)) (some on) none) (bit t q)
+      go false e c f = one-outside q (inl (ltb-false _ _ e)) ∙ elsewhere (λ z. omega (arith, ltb-false (16 * d) q e))
+      go true e true f = inside (ltb-true _ _ e) (leb-true _ _ f)
+      go true e false f = one-outside q (inr (leb-false _ _ f)) ∙ elsewhere (λ z. omega (arith, leb-false q (16 * (d + n)) f))
+
+-- ---- a change that is made: a matrix of n words, or a bit of them; D is true where there is one
+abbrev pub Makes : Type 0 → ℕ → Change → Type 0
+Makes D n stays = Unit {0}
+Makes D n (becomes m) = D × (length m ≡ n)
+Makes D n (puts p on) = D × (1 ≤ p) × (p ≤ 16 * n)
+
+pub makes-so : {D E : Type 0} (n : ℕ) (c : Change) → (D → E) → Makes D n c → Makes E n c
+makes-so n stays f h = h
+makes-so n (becomes m) f h = (f (h .0), h .1)
+makes-so n (puts p on) f h = (f (h .0), h .1, h .2)
+
+pub change-length : (d n : ℕ) (c : Change) (t : List ℕ) → Makes (d + n ≤ length t) n c → length (change-put d n c t) ≡ length t
+unfolding change-put
+change-length d n stays t h = refl
+change-length d n (becomes m) t h = placed-length t d m (omega (arith, h .0, h .1))
+change-length d n (puts p on) t h = one-length t d n p on (h .0)
+
+pub change-bits : (d n : ℕ) (c : Change) (t : List ℕ) → Makes (d + n ≤ length t) n c → (p : ℕ)
+    → bit (change-put d n c t) p ≡ or-stays (change-bit d c p) (bit t p)
+unfolding change-put
+change-bits d n stays t h p = refl
+change-bits d n (becomes m) t h p = matrix-bits t d m (omega (arith, h .0, h .1)) p
+change-bits d n (puts q on) t h p = one-bits t d n q on (h .0) (h .1) (h .2) p
+
+-- what lies outside the n words stays
+pub change-spares : (d n : ℕ) (c : Change) (t : List ℕ) (p : ℕ) → Makes ((d + n ≤ length t) × Off d n p) n c → bit (change-put d n c t) p ≡ bit t p
+unfolding change-put
+change-spares d n stays t p h = refl
+change-spares d n (becomes m) t p h =
+    bit-outside t d m (omega (arith, h .0 .0, h .1)) p (⊎-elim inl (λ l. inr (omega (arith, h .1))) (h .0 .1))
+change-spares d n (puts q on) t p h = one-outside t d n q on (h .0 .0) p (h .0 .1)
+
+pub change-spares-word : (d n : ℕ) (c : Change) (t : List ℕ) (k : ℕ) → Makes ((d + n ≤ length t) × ((k < d) ⊎ (d + n ≤ k))) n c
+    → getD (change-put d n c t) k 0 ≡ getD t k 0
+unfolding change-put
+change-spares-word d n stays t k h = refl
+change-spares-word d n (becomes m) t k h =
+    word-outside t d m (omega (arith, h .0 .0, h .1)) k (⊎-elim inl (λ l. inr (omega (arith, h .1))) (h .0 .1))
+change-spares-word d n (puts q on) t k h = one-word-outside t d n q on (h .0 .0) k (h .0 .1)
+
+-- ---- a coil
+module _ (net : Network) (number : ℕ) (on : Bool) (t : List ℕ) (h : net .sizes .coils ≤ length t) where
+  coils-lie : 0 + net .sizes .coils ≤ length t
+  coils-lie = omega arith
+
+  pub coil-length : length (coil-put net number on t) ≡ length t
+  unfolding coil-put
+  coil-length = go (eqb number 0)
+    where
+      go : (a : Bool) → length (cond a t (bit-put t 0 (net .sizes .coils) number on)) ≡ length t
+      go true = refl
+      go false = one-length t 0 (net .sizes .coils) number on coils-lie
+
+  -- the words after the coil area stay
+  pub coil-word : (k : ℕ) → net .sizes .coils ≤ k → getD (coil-put net number on t) k 0 ≡ getD t k 0
+  unfolding coil-put
+  coil-word k l = go (eqb number 0)
+    where
+      go : (a : Bool) → getD (cond a t (bit-put t 0 (net .sizes .coils) number on)) k 0 ≡ getD t k 0
+      go true = refl
+      go false = one-word-outside t 0 (net .sizes .coils) number on coils-lie k (inr (omega arith))
+
+  pub coil-bits : number ≤ 16 * net .sizes .coils → (p : ℕ) → bit (coil-put net number on t) p ≡ or-stays (coil-bit number on p) (bit t p)
+  unfolding coil-put
+  coil-bits l p = go (eqb number 0) refl
+    where
+      first : 16 * 0 + number ≡ number
+      first = omega arith
+
+      go : (a : Bool) → eqb number 0 ≡ a
+          → bit (cond a t (bit-put t 0 (net .sizes .coils) number on)) p ≡ or-stays (cond a none (cond (eqb p number) (some on) none)) (bit t p)
+      go true e = refl
+      go false e =
+          let counted : 1 ≤ number = omega (arith, eqb-false number 0 e) in
+          one-bits t 0 (net .sizes .coils) number on coils-lie counted l p
+          ∙ ap (λ (k : ℕ). or-stays (cond (eqb p k) (some on) none) (bit t p)) first
 
   -- a bit that is not the coil's stays
   pub coil-spares : number ≤ 16 * net .sizes .coils → (p : ℕ) → (number ≡ 0) ⊎ (p ≡ number → ⊥) → bit (coil-put net number on t) p ≡ bit t p

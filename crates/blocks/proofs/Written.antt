@@ -1,6 +1,6 @@
 -- What a block of an accepted network leaves: there is room for what it writes, so every bit of the table afterwards is the one that the
 -- block put there or the one that was there. From this the frame and the key rule. Assumes nothing.
-use mathlib.Core.Path.{_≡_, refl, sym, ap, _∙_}
+use mathlib.Core.Path.{_≡_, refl, sym, ap, _∙_, subst}
 use mathlib.Core.Bool.{Bool}
 use mathlib.Core.List.{List}
 use mathlib.Core.Logic.{_⊎_, inl, inr, ⊎-elim}
@@ -17,20 +17,14 @@ use Rattle.blocks.specs.declared.Power.{Power}
 use Rattle.blocks.specs.Kind.{Kind, kind-of}
 use Rattle.blocks.specs.View.{View, first-word}
 use Rattle.blocks.specs.Effect.{Effect, effect-of}
-use Rattle.blocks.specs.Work.{pointer-node, one-word, matrix-put, coil-put, outputs, effect-on, block-outputs, block-table}
-use Rattle.blocks.specs.Truths.{matrix-bit, coil-bit, later, bit-written, or-stays, Runs, SameLong, EveryBit, Frame, InputsStay, KeyRule}
+use Rattle.blocks.specs.Work.{pointer-node, one-word, matrix-put, change-put, coil-put, outputs, effect-on, block-outputs, block-table}
+use Rattle.blocks.specs.Truths.{matrix-bit, change-bit, coil-bit, later, bit-written, or-stays, Runs, NoCoil, SameLong, EveryBit, Frame, InputsStay, KeyRule}
 use Rattle.blocks.proofs.Places.{Fits, Destination, Register, Writes, writes}
-use Rattle.blocks.proofs.Puts.{Off, Room, put-length, put-bits, put-spares, put-spares-word, coil-length, coil-bits, coil-spares, coil-word}
+use Rattle.blocks.proofs.Puts.{Off, Room, Makes, makes-so, put-length, put-bits, put-spares, put-spares-word, change-length, change-bits, change-spares, change-spares-word, coil-length, coil-bits, coil-spares, coil-word}
 
 or-later : (a w : Option Bool) (x : Bool) → or-stays (later a w) x ≡ or-stays a (or-stays w x)
 or-later none w x = refl
 or-later (some y) w x = refl
-
--- a position that is none of a block's coils
-pub record NoCoil (b : Block) (p : ℕ) : Type 0 where
-  pub no-top : (b .coils .top ≡ 0) ⊎ (p ≡ b .coils .top → ⊥)
-  pub no-middle : (b .coils .middle ≡ 0) ⊎ (p ≡ b .coils .middle → ⊥)
-  pub no-bottom : (b .coils .bottom ≡ 0) ⊎ (p ≡ b .coils .bottom → ⊥)
 
 -- ---- the tables that a block's writes leave, one after the other: its destination, its pointer, its coils
 module _ (net : Network) (b : Block) (t : List ℕ) (on : Power) where
@@ -44,7 +38,7 @@ module _ (net : Network) (b : Block) (t : List ℕ) (on : Power) where
   pointer-at = first-word net (pointer-node (kind-of (b .kind)) b)
 
   abbrev with-destination : List ℕ
-  with-destination = matrix-put destination-at (e .destination) t
+  with-destination = change-put destination-at (b .n) (e .destination) t
 
   abbrev pub with-pointer : List ℕ
   with-pointer = matrix-put pointer-at (one-word (e .pointer)) with-destination
@@ -56,14 +50,14 @@ module _ (net : Network) (b : Block) (t : List ℕ) (on : Power) where
   with-middle = coil-put net (b .coils .middle) (e .middle) with-top
 
   module _ (earlier : ℕ) (r : Runs net earlier b t) where
-    w : Writes (Destination net b) (Register net b) e
+    w : Writes (Destination net b) (Register net b) (b .n) e
     w = writes net earlier b t r on
 
-    room-1 : Room (length t) destination-at (e .destination)
-    room-1 m q = omega (arith, w .destination .each m q .fits .inside, r .exact)
+    room-1 : Makes (destination-at + b .n ≤ length t) (b .n) (e .destination)
+    room-1 = makes-so (b .n) (e .destination) (λ d. omega (arith, d .fits .inside, r .exact)) (w .destination)
 
     long-1 : length with-destination ≡ total (net .sizes)
-    long-1 = put-length destination-at (e .destination) t room-1 ∙ r .exact
+    long-1 = change-length destination-at (b .n) (e .destination) t room-1 ∙ r .exact
 
     room-2 : Room (length with-destination) pointer-at (one-word (e .pointer))
     room-2 m q = omega (arith, w .pointer .each m q .fits .inside, long-1)
@@ -95,7 +89,7 @@ module _ (net : Network) (b : Block) (t : List ℕ) (on : Power) where
         (coil-bits net (b .coils .top) (on .top) with-pointer (coils-in with-pointer long-2) (r .good .top-coil) p
         ∙ ap (or-stays c₁)
         (put-bits pointer-at (one-word (e .pointer)) with-destination room-2 p
-        ∙ ap (or-stays q) (put-bits destination-at (e .destination) t room-1 p)
+        ∙ ap (or-stays q) (change-bits destination-at (b .n) (e .destination) t room-1 p)
         ∙ sym (or-later q d (bit t p)))
         ∙ sym (or-later c₁ (later q d) (bit t p)))
         ∙ sym (or-later c₂ (later c₁ (later q d)) (bit t p)))
@@ -114,19 +108,24 @@ module _ (net : Network) (b : Block) (t : List ℕ) (on : Power) where
         q = matrix-bit pointer-at (one-word (e .pointer)) p
 
         d : Option Bool
-        d = matrix-bit destination-at (e .destination) p
+        d = change-bit destination-at (e .destination) p
 
     -- ---- what stays
 
     -- bits and words outside the destination and the pointer are as they were until the coils are written
-    pub work-spares : (p : ℕ) → ((m : List ℕ) → e .destination ≡ some m → Off destination-at (length m) p)
+    pub work-spares : (p : ℕ) → (Destination net b → Off destination-at (b .n) p)
         → ((m : List ℕ) → one-word (e .pointer) ≡ some m → Off pointer-at (length m) p) → bit with-pointer p ≡ bit t p
-    work-spares p f g = put-spares pointer-at (one-word (e .pointer)) with-destination room-2 p g ∙ put-spares destination-at (e .destination) t room-1 p f
+    work-spares p f g =
+        put-spares pointer-at (one-word (e .pointer)) with-destination room-2 p g
+        ∙ change-spares destination-at (b .n) (e .destination) t p
+        (makes-so (b .n) (e .destination) (λ d. (omega (arith, d .fits .inside, r .exact), f d)) (w .destination))
 
-    pub work-spares-word : (k : ℕ) → ((m : List ℕ) → e .destination ≡ some m → (k < destination-at) ⊎ (destination-at + length m ≤ k))
+    pub work-spares-word : (k : ℕ) → (Destination net b → (k < destination-at) ⊎ (destination-at + b .n ≤ k))
         → ((m : List ℕ) → one-word (e .pointer) ≡ some m → (k < pointer-at) ⊎ (pointer-at + length m ≤ k)) → getD with-pointer k 0 ≡ getD t k 0
     work-spares-word k f g =
-        put-spares-word pointer-at (one-word (e .pointer)) with-destination room-2 k g ∙ put-spares-word destination-at (e .destination) t room-1 k f
+        put-spares-word pointer-at (one-word (e .pointer)) with-destination room-2 k g
+        ∙ change-spares-word destination-at (b .n) (e .destination) t k
+        (makes-so (b .n) (e .destination) (λ d. (omega (arith, d .fits .inside, r .exact), f d)) (w .destination))
 
     -- and from there on those that are none of the coils
     pub coils-spare : (p : ℕ) → NoCoil b p → bit (block-table net b t on) p ≡ bit with-pointer p
@@ -142,6 +141,15 @@ module _ (net : Network) (b : Block) (t : List ℕ) (on : Power) where
         coil-word net (b .coils .bottom) (e .bottom) with-middle (coils-in with-middle long-4) k l
         ∙ coil-word net (b .coils .middle) (e .middle) with-top (coils-in with-top long-3) k l
         ∙ coil-word net (b .coils .top) (on .top) with-pointer (coils-in with-pointer long-2) k l
+
+    -- a bit that is none of the pointer's and none of the coils' is as the destination's change leaves it
+    pub beside-pointer : (p : ℕ) → NoCoil b p → (pointer-node (kind-of (b .kind)) b .class ≡ 4 → Off pointer-at 1 p)
+        → bit (block-table net b t on) p ≡ or-stays (change-bit destination-at (e .destination) p) (bit t p)
+    beside-pointer p n off =
+        coils-spare p n
+        ∙ put-spares pointer-at (one-word (e .pointer)) with-destination room-2 p
+        (λ m q. subst (λ (k : ℕ). Off pointer-at k p) (sym (w .pointer .each m q .one-long)) (off (w .pointer .each m q .held)))
+        ∙ change-bits destination-at (b .n) (e .destination) t room-1 p
 
 -- what fits spares the inputs
 no-input : {net : Network} {s words p : ℕ} → Fits net s words → 16 * net .sizes .coils < p → p ≤ 16 * (net .sizes .coils + net .sizes .discretes + net .sizes .inputs) → Off s words p
@@ -164,7 +172,7 @@ inputs-stay net earlier b t r on p l u =
       no-middle = inr (λ q. omega (arith, r .good .middle-coil));
       no-bottom = inr (λ q. omega (arith, r .good .bottom-coil));
     })
-    ∙ work-spares net b t on earlier r p (λ m q. no-input (w .destination .each m q .fits) l u) (λ m q. no-input (w .pointer .each m q .fits) l u)
+    ∙ work-spares net b t on earlier r p (λ d. no-input (d .fits) l u) (λ m q. no-input (w .pointer .each m q .fits) l u)
 
 -- ---- the key rule
 pub key-rule : KeyRule

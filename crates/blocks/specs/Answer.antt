@@ -20,7 +20,7 @@ finished out = record { verdict = placeless 0; outputs = out }
 abbrev pub refused : ℕ → Worked
 refused number = record { verdict = placeless number; outputs = no-outputs }
 
--- unless a refusal is earned, an effect's outputs, and its destination and then its pointer written, which start at d and p
-pub record Does (number : ℕ) (on : Power) (e : Effect) (d p : ℕ) (t : List ℕ) (r : Worked) (table : List ℕ) : Type 0 where
+-- unless a refusal is earned, an effect's outputs, and its destination, the n words from d on, and then its pointer, at p, written
+pub record Does (number : ℕ) (on : Power) (e : Effect) (d n p : ℕ) (t : List ℕ) (r : Worked) (table : List ℕ) : Type 0 where
   pub answers : r ≡ unless number (finished (outputs on e)) (refused number)
-  pub leaves : table ≡ unless number (effect-put d p e t) t
+  pub leaves : table ≡ unless number (effect-put d n p e t) t

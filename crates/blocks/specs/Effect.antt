@@ -17,20 +17,27 @@ use Rattle.blocks.specs.Kind.{Kind}
 use Rattle.blocks.specs.Kind.Kind.{AND, OR, XOR, COMP, CMPR, MBIT, SENS, BROT}
 use Rattle.blocks.specs.View.{View}
 
--- what the destination and the pointer become, none where they stay; the middle and the bottom output
+-- what happens to the destination: it stays, its words become a matrix, or the bit at one position is put on or off and every other
+-- bit stays
+pub data Change : Type 0 where
+  stays : Change
+  becomes : List ℕ → Change
+  puts : ℕ → Bool → Change
+
+-- what happens to the destination; what the pointer becomes, none where it stays; the middle and the bottom output
 pub record Effect : Type 0 where
-  pub destination : Option (List ℕ)
+  pub destination : Change
   pub pointer : Option ℕ
   pub middle : Bool
   pub bottom : Bool
 
-abbrev pub effect : Option (List ℕ) → Option ℕ → Bool → Bool → Effect
+abbrev pub effect : Change → Option ℕ → Bool → Bool → Effect
 effect destination pointer middle bottom =
     record { destination = destination; pointer = pointer; middle = middle; bottom = bottom }
 
 -- nothing is done but that the pointer becomes what a reset makes of it
 abbrev pub idle : Option ℕ → Effect
-idle pointer = effect none pointer false false
+idle pointer = effect stays pointer false false
 
 -- a pointer into a matrix of n words
 abbrev pub into : ℕ → ℕ → Pointer
@@ -41,7 +48,7 @@ unfoldable pub logic : Operation → ℕ → View → Power → Effect
 unfolding combined
 logic operation n v on =
     cond (on .top)
-    (effect (some (matrix n (λ p. combined operation (bit (v .source) p) (bit (v .destination) p)))) none false false)
+    (effect (becomes (matrix n (λ p. combined operation (bit (v .source) p) (bit (v .destination) p)))) none false false)
     (idle none)
 
 -- CMPR. Power on the middle input sets the pointer to 0 first, with or without power on top.
@@ -50,8 +57,8 @@ zeroed n v on = cond (on .middle) (reset (into n (v .pointer)) 0) (into n (v .po
 
 -- Found: the pointer is that position, middle on, bottom shows the source's bit. None: pointer 16n, middle and bottom off.
 unfoldable pub found : ℕ → View → Option ℕ → Effect
-found n v none = effect none (some (16 * n)) false false
-found n v (some p) = effect none (some p) true (bit (v .source) p)
+found n v none = effect stays (some (16 * n)) false false
+found n v (some p) = effect stays (some p) true (bit (v .source) p)
 
 -- With power, a pointer of 16n or more counts as 0, and the first differing position above the pointer is sought.
 unfoldable pub compare : ℕ → View → Power → Effect
@@ -67,7 +74,7 @@ unfoldable pub rotate : ℕ → View → Power → Effect
 unfolding moved
 rotate n v on =
     cond (on .top)
-    (effect (some (matrix n (moved (on .middle) (on .bottom) (v .source) n))) none (leaving (on .middle) (v .source) n) false)
+    (effect (becomes (matrix n (moved (on .middle) (on .bottom) (v .source) n))) none (leaving (on .middle) (v .source) n) false)
     (idle none)
 
 -- increase adds 1, but takes 16n to 1; without it the pointer is as it was left
@@ -81,9 +88,9 @@ unfolding advanced
 modify held n v on =
     cond (on .top)
     (cond (ltb (16 * n) (v .pointer))
-    (effect none none false true)
+    (effect stays none false true)
     (effect
-    (cond (eqb (v .pointer) 0) none (some (matrix n (λ p. cond (eqb p (v .pointer)) (on .middle) (bit (v .destination) p)))))
+    (cond (eqb (v .pointer) 0) stays (puts (v .pointer) (on .middle)))
     (increased (held && on .bottom) none (into n (v .pointer)))
     (on .middle && not (eqb (v .pointer) 0))
     false))
@@ -102,8 +109,8 @@ unfolding reset advanced
 sense held n v on =
     cond (on .top)
     (cond (ltb (16 * n) (at-one held n v on .at))
-    (effect none (left-at-one held n v on) false true)
-    (effect none
+    (effect stays (left-at-one held n v on) false true)
+    (effect stays
     (increased (held && on .middle) (left-at-one held n v on) (at-one held n v on))
     (bit (v .source) (at-one held n v on .at))
     false))

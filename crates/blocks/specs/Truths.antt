@@ -1,8 +1,8 @@
 -- What is true of a block of an accepted network (document 01, "One scan"): which bits it writes, that it changes nothing else
--- and no input, the key rule, and when a compare reports none. Assumes nothing.
+-- and no input, that MBIT touches one bit, the key rule, and when a compare reports none. Assumes nothing.
 use Prim.Native.Nat.{ℕ, _+_, _-_, _*_, _≤_, _<_}
 use mathlib.Core.Path.{_≡_}
-use mathlib.Core.Logic.{_↔_}
+use mathlib.Core.Logic.{_↔_, _⊎_}
 use mathlib.Core.Bool.{Bool, true, false, cond, _&&_}
 use mathlib.Core.List.{List}
 use mathlib.Core.Option.{Option, none, some}
@@ -17,8 +17,9 @@ use Rattle.table.specs.Table.{total}
 use Rattle.rules.specs.Sound.{GoodBlock}
 use Rattle.blocks.specs.declared.Power.{Power}
 use Rattle.blocks.specs.Kind.{kind-of}
-use Rattle.blocks.specs.View.{View, first-word, view}
-use Rattle.blocks.specs.Effect.{Effect, zeroed, compare}
+use Rattle.blocks.specs.View.{View, first-word, pointer-in, view}
+use Rattle.blocks.specs.Effect.{Change, Effect, zeroed, compare}
+use Rattle.blocks.specs.Effect.Change.{stays, becomes, puts}
 use Rattle.blocks.specs.Work.{pointer-node, one-word, effect-on, block-outputs, block-table}
 
 -- ---- the bits that a block writes, by their positions in the whole table
@@ -27,6 +28,12 @@ use Rattle.blocks.specs.Work.{pointer-node, one-word, effect-on, block-o
 abbrev pub matrix-bit : ℕ → Option (List ℕ) → ℕ → Option Bool
 matrix-bit s none p = none
 matrix-bit s (some m) p = cond (ltb (16 * s) p && leb p (16 * (s + length m))) (some (bit m (p - 16 * s))) none
+
+-- what a change of the words from an index on puts there
+abbrev pub change-bit : ℕ → Change → ℕ → Option Bool
+change-bit d stays p = none
+change-bit d (becomes m) p = matrix-bit d (some m) p
+change-bit d (puts q on) p = cond (eqb p (16 * d + q)) (some on) none
 
 -- what a coil puts there
 abbrev pub coil-bit : ℕ → Bool → ℕ → Option Bool
@@ -44,7 +51,7 @@ bit-written net b on e p =
     (later (coil-bit (b .coils .middle) (e .middle) p)
     (later (coil-bit (b .coils .top) (on .top) p)
     (later (matrix-bit (first-word net (pointer-node (kind-of (b .kind)) b)) (one-word (e .pointer)) p)
-    (matrix-bit (first-word net (b .middle)) (e .destination) p))))
+    (change-bit (first-word net (b .middle)) (e .destination) p))))
 
 -- the bit that was there, unless another is written
 abbrev pub or-stays : Option Bool → Bool → Bool
@@ -57,6 +64,12 @@ or-stays (some x) there = x
 pub record Runs (net : Network) (earlier : ℕ) (b : Block) (t : List ℕ) : Type 0 where
   pub good : GoodBlock (net .sizes) earlier b
   pub exact : length t ≡ total (net .sizes)
+
+-- a position that is none of a block's coils
+pub record NoCoil (b : Block) (p : ℕ) : Type 0 where
+  pub no-top : (b .coils .top ≡ 0) ⊎ (p ≡ b .coils .top → ⊥)
+  pub no-middle : (b .coils .middle ≡ 0) ⊎ (p ≡ b .coils .middle → ⊥)
+  pub no-bottom : (b .coils .bottom ≡ 0) ⊎ (p ≡ b .coils .bottom → ⊥)
 
 -- the table stays as long as it was
 abbrev pub SameLong : Type 0
@@ -74,6 +87,20 @@ abbrev pub Frame : Type 0
 Frame =
     (net : Network) (earlier : ℕ) (b : Block) (t : List ℕ) → Runs net earlier b t → (on : Power) (p : ℕ) →
     bit-written net b on (effect-on net b t on) p ≡ none → bit (block-table net b t on) p ≡ bit t p
+
+-- a position that is no bit of an MBIT's pointer, where that is held, and none of its coils
+pub record Beside (net : Network) (b : Block) (p : ℕ) : Type 0 where
+  pub no-pointer : b .top .class ≡ 4 → (p ≤ 16 * first-word net (b .top)) ⊎ (16 * (first-word net (b .top) + 1) < p)
+  pub no-coil : NoCoil b p
+
+-- MBIT: with power and a pointer from 1 to 16n the bit at the pointer becomes 1 with power on middle, else 0, and no other bit is touched;
+-- without power, at 0 and over 16n no bit is
+abbrev pub ModifiesOneBit : Type 0
+ModifiesOneBit =
+    (net : Network) (earlier : ℕ) (b : Block) (t : List ℕ) → Runs net earlier b t → b .kind ≡ 6 → (on : Power) (p : ℕ) → Beside net b p →
+    let at = pointer-in net (b .top) t in
+    bit (block-table net b t on) p
+    ≡ cond (on .top && (leb 1 at && leb at (16 * b .n))) (cond (eqb p (16 * first-word net (b .middle) + at)) (on .middle) (bit t p)) (bit t p)
 
 -- discrete inputs and input registers never change: they stand after the coils and before the holding registers
 abbrev pub InputsStay : Type 0

@@ -5,15 +5,16 @@ use mathlib.Core.Bool.{Bool, cond}
 use mathlib.Core.List.{List, [], _∷_}
 use mathlib.Core.Option.{Option, none, some}
 use lib.Dec.{eqb}
-use Rattle.bits.specs.Bit.{bit, matrix}
-use Rattle.runs.specs.Run.{run, placed}
+use Rattle.runs.specs.Run.{placed}
+use Rattle.matrix.specs.Single.{bit-put}
 use Rattle.record.specs.declared.{Node.Node, Coils.Coils, Block.Block}
 use Rattle.network.specs.Network.{Network}
 use Rattle.blocks.specs.declared.{Power.Power, Outputs.Outputs}
 use Rattle.blocks.specs.Kind.{Kind, kind-of}
 use Rattle.blocks.specs.Kind.Kind.{AND, OR, XOR, COMP, CMPR, MBIT, SENS, BROT}
 use Rattle.blocks.specs.View.{View, first-word, view}
-use Rattle.blocks.specs.Effect.{Effect, effect-of}
+use Rattle.blocks.specs.Effect.{Change, Effect, effect-of}
+use Rattle.blocks.specs.Effect.Change.{stays, becomes, puts}
 
 -- the node that gives the pointer: CMPR's stands before its matrix
 abbrev pub pointer-node : Kind → Block → Node
@@ -36,15 +37,19 @@ abbrev pub one-word : Option ℕ → Option (List ℕ)
 one-word none = none
 one-word (some w) = some (w ∷ [])
 
--- an effect: the destination from index d on, then the pointer at index p
-abbrev pub effect-put : ℕ → ℕ → Effect → List ℕ → List ℕ
-effect-put d p e t = matrix-put p (one-word (e .pointer)) (matrix-put d (e .destination) t)
+-- what happens to a destination, which is the n words from index d on
+unfoldable pub change-put : ℕ → ℕ → Change → List ℕ → List ℕ
+change-put d n stays t = t
+change-put d n (becomes m) t = placed t d m
+change-put d n (puts p on) t = bit-put t d n p on
+
+-- an effect: the destination, the n words from index d on, then the pointer at index p
+abbrev pub effect-put : ℕ → ℕ → ℕ → Effect → List ℕ → List ℕ
+effect-put d n p e t = matrix-put p (one-word (e .pointer)) (change-put d n (e .destination) t)
 
 -- a coil: the bit of that number of the coil area, 1 for power and 0 for none; number 0 names none
 unfoldable pub coil-put : Network → ℕ → Bool → List ℕ → List ℕ
-coil-put net number on t =
-    cond (eqb number 0) t
-    (placed t 0 (matrix (net .sizes .coils) (λ p. cond (eqb p number) on (bit (run t 0 (net .sizes .coils)) p))))
+coil-put net number on t = cond (eqb number 0) t (bit-put t 0 (net .sizes .coils) number on)
 
 abbrev pub coils-put : Network → Coils → Outputs → List ℕ → List ℕ
 coils-put net coils out t = coil-put net (coils .bottom) (out .bottom) (coil-put net (coils .middle) (out .middle) (coil-put net (coils .top) (out .top) t))
@@ -66,7 +71,7 @@ outputs on e = shows (on .top) (e .middle) (e .bottom)
 abbrev pub written : Network → Block → Power → Effect → List ℕ → List ℕ
 written net b on e t =
     coils-put net (b .coils) (outputs on e)
-    (effect-put (first-word net (b .middle)) (first-word net (pointer-node (kind-of (b .kind)) b)) e t)
+    (effect-put (first-word net (b .middle)) (b .n) (first-word net (pointer-node (kind-of (b .kind)) b)) e t)
 
 -- the outputs of a block, and the table that it leaves
 unfoldable pub block-outputs : Network → Block → List ℕ → Power → Outputs
@@ -74,5 +79,5 @@ unfolding kind-of view effect-of
 block-outputs net b t on = outputs on (effect-on net b t on)
 
 unfoldable pub block-table : Network → Block → List ℕ → Power → List ℕ
-unfolding kind-of view effect-of matrix-put coil-put
+unfolding kind-of view effect-of matrix-put change-put coil-put
 block-table net b t on = written net b on (effect-on net b t on) t

@@ -23,7 +23,7 @@ module _ (one : Located) (t : List ℕ) (on : Power) where
   abbrev WorksAs : ℕ → Worked → List ℕ → Type 0
   WorksAs k r table =
       Does (cond (kind k) (kind-fault (kind-of k) one (length t)) 4) on (effect-as (kind-of k) (one .block) (seen-by (kind-of k) one t) on)
-      (one .middle) (pointer-word (kind-of k) one) t r table
+      (one .middle) (one .block .n) (pointer-word (kind-of k) one) t r table
 
   as-promised : {r : Worked} {table : List ℕ} → WorksAs (one .block .kind) r table → Leaves (work-answer one t on) (work-table one t on) r table
   unfolding work-fault work-answer work-table
@@ -35,7 +35,7 @@ module _ (one : Located) (t : List ℕ) (on : Power) where
   pub no-work : kind (one .block .kind) ≡ false → {r : Worked} → r ≡ refused 4 → Leaves (work-answer one t on) (work-table one t on) r t
   no-work e {r} q =
       as-promised
-      (subst (λ (a : Bool). Does (cond a (kind-fault (kind-of (one .block .kind)) one (length t)) 4) on (effect-here one t on) (one .middle) (pointer-word (kind-of (one .block .kind)) one) t r t) (sym e)
+      (subst (λ (a : Bool). Does (cond a (kind-fault (kind-of (one .block .kind)) one (length t)) 4) on (effect-here one t on) (one .middle) (one .block .n) (pointer-word (kind-of (one .block .kind)) one) t r t) (sym e)
       (refuses (λ z. omega arith) q))
 
 module _ (one : Located) (t : List ℕ) where

@@ -104,8 +104,8 @@ module _ (net : Network) (earlier : ℕ) (b : Block) (t : List ℕ) (r : Runs ne
     unfolding work-answer block-outputs view
     answers-done = unless-done (work-fault (located net b) (length t)) (finished (outputs on (effect-on net b t on))) (refused (work-fault (located net b) (length t))) not-refused
 
-    pub table-done : work-table (located net b) t on ≡ effect-put (first-word net (b .middle)) (first-word net (pointer-node (kind-of (b .kind)) b)) (effect-on net b t on) t
+    pub table-done : work-table (located net b) t on ≡ effect-put (first-word net (b .middle)) (b .n) (first-word net (pointer-node (kind-of (b .kind)) b)) (effect-on net b t on) t
     unfolding work-table view
     table-done =
-        unless-done (work-fault (located net b) (length t)) (effect-put (first-word net (b .middle)) (pointer-word (kind-of (b .kind)) (located net b)) (effect-on net b t on) t) t not-refused
-        ∙ ap (λ (p : ℕ). effect-put (first-word net (b .middle)) p (effect-on net b t on) t) (word-of-node (kind-of (b .kind)) net b)
+        unless-done (work-fault (located net b) (length t)) (effect-put (first-word net (b .middle)) (b .n) (pointer-word (kind-of (b .kind)) (located net b)) (effect-on net b t on) t) t not-refused
+        ∙ ap (λ (p : ℕ). effect-put (first-word net (b .middle)) (b .n) p (effect-on net b t on) t) (word-of-node (kind-of (b .kind)) net b)

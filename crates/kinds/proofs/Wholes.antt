@@ -2,7 +2,7 @@
 use mathlib.Core.Path.{_≡_, refl, ap, _∙_}
 use mathlib.Core.Bool.{Bool, true, false, cond}
 use mathlib.Core.List.{List}
-use mathlib.Core.Option.{none, some}
+use mathlib.Core.Option.{none}
 use Prim.Native.Nat.{ℕ}
 use lib.ListN.{length}
 use Rattle.verdict.specs.declared.Verdict.{Verdict}
@@ -17,7 +17,8 @@ use Rattle.matrix.specs.Move.{leaving, moved, move-answer, move-table}
 use Rattle.runs.proofs.Refusals.{unless-done, fault-none}
 use Rattle.blocks.specs.declared.Power.{Power}
 use Rattle.blocks.specs.Effect.{effect, idle, logic, rotate}
-use Rattle.blocks.specs.Work.{matrix-put, shows}
+use Rattle.blocks.specs.Effect.Change.{becomes}
+use Rattle.blocks.specs.Work.{matrix-put, change-put, shows}
 use Rattle.blocks.proofs.Doing.{Did, by-effect, idle-does}
 use Rattle.kinds.specs.Inner.{combined-at, rotated-at}
 
@@ -28,20 +29,20 @@ answered (Refused v) = false
 
 -- ---- AND, OR, XOR, COMP
 module _ (operation : Operation) (t : List ℕ) (s d n : ℕ) (on : Power) where
-  pub logic-off : on .top ≡ false → Did on (combined-at operation t s d n on) d s t (shows (on .top) false false) t
+  pub logic-off : on .top ≡ false → Did on (combined-at operation t s d n on) d n s t (shows (on .top) false false) t
   unfolding logic
   logic-off e =
-      by-effect on d s t (shows (on .top) false false) t
-      (ap (λ (a : Bool). cond a (effect (some (matrix n (λ p. combined operation (bit (run t s n) p) (bit (run t d n) p)))) none false false) (idle none)) e)
-      (idle-does on d s t)
+      by-effect on d n s t (shows (on .top) false false) t
+      (ap (λ (a : Bool). cond a (effect (becomes (matrix n (λ p. combined operation (bit (run t s n) p) (bit (run t d n) p)))) none false false) (idle none)) e)
+      (idle-does on d n s t)
 
   pub logic-on : on .top ≡ true → Accepted longest-whole (length t) n s d → {v : Verdict} {table : List ℕ}
       → Leaves (combine-verdict t s d n) (combine-table operation t s d n) v table
-      → Did on (combined-at operation t s d n on) d s t (shows (on .top) false false) table
-  unfolding logic matrix-put combine-table
+      → Did on (combined-at operation t s d n on) d n s t (shows (on .top) false false) table
+  unfolding logic matrix-put change-put combine-table
   logic-on e h {v} {table} l =
-      by-effect on d s t (shows (on .top) false false) table
-      (ap (λ (a : Bool). cond a (effect (some (matrix n (λ p. combined operation (bit (run t s n) p) (bit (run t d n) p)))) none false false) (idle none)) e)
+      by-effect on d n s t (shows (on .top) false false) table
+      (ap (λ (a : Bool). cond a (effect (becomes (matrix n (λ p. combined operation (bit (run t s n) p) (bit (run t d n) p)))) none false false) (idle none)) e)
       (record {
         answers = refl;
         leaves = l .leaves ∙ unless-done (fault longest-whole (length t) n s d) _ t (fault-none longest-whole (length t) n s d h);
@@ -49,21 +50,21 @@ module _ (operation : Operation) (t : List ℕ) (s d n : ℕ) (on : Power) where
 
 -- ---- BROT
 module _ (t : List ℕ) (s d n : ℕ) (on : Power) where
-  pub rotate-off : on .top ≡ false → Did on (rotated-at t s n on) d s t (shows (on .top) false false) t
+  pub rotate-off : on .top ≡ false → Did on (rotated-at t s n on) d n s t (shows (on .top) false false) t
   unfolding rotate
   rotate-off e =
-      by-effect on d s t (shows (on .top) false false) t
-      (ap (λ (a : Bool). cond a (effect (some (matrix n (moved (on .middle) (on .bottom) (run t s n) n))) none (leaving (on .middle) (run t s n) n) false) (idle none)) e)
-      (idle-does on d s t)
+      by-effect on d n s t (shows (on .top) false false) t
+      (ap (λ (a : Bool). cond a (effect (becomes (matrix n (moved (on .middle) (on .bottom) (run t s n) n))) none (leaving (on .middle) (run t s n) n) false) (idle none)) e)
+      (idle-does on d n s t)
 
   pub rotate-on : on .top ≡ true → Accepted longest-whole (length t) n s d → {r : Answer} {table : List ℕ}
       → Leaves (move-answer (on .middle) t s d n) (move-table (on .middle) (on .bottom) t s d n) r table
-      → {x : Answer} → x ≡ r → Did on (rotated-at t s n on) d s t (shows (on .top) (answered x) false) table
-  unfolding rotate matrix-put move-table move-answer answered
+      → {x : Answer} → x ≡ r → Did on (rotated-at t s n on) d n s t (shows (on .top) (answered x) false) table
+  unfolding rotate matrix-put change-put move-table move-answer answered
   rotate-on e h {r} {table} l {x} q =
       let taken = fault-none longest-whole (length t) n s d h in
-      by-effect on d s t (shows (on .top) (answered x) false) table
-      (ap (λ (a : Bool). cond a (effect (some (matrix n (moved (on .middle) (on .bottom) (run t s n) n))) none (leaving (on .middle) (run t s n) n) false) (idle none)) e)
+      by-effect on d n s t (shows (on .top) (answered x) false) table
+      (ap (λ (a : Bool). cond a (effect (becomes (matrix n (moved (on .middle) (on .bottom) (run t s n) n))) none (leaving (on .middle) (run t s n) n) false) (idle none)) e)
       (record {
         answers = ap (λ (a : Answer). shows (on .top) (answered a) false) (q ∙ l .answers ∙ unless-done (fault longest-whole (length t) n s d) _ _ taken);
         leaves = l .leaves ∙ unless-done (fault longest-whole (length t) n s d) _ t taken;

@@ -13,7 +13,7 @@ use Rattle.blocks.specs.Kind.{Kind, kind-of, has-pointer}
 use Rattle.blocks.specs.Kind.Kind.{AND, OR, XOR, COMP, CMPR, MBIT, SENS, BROT}
 use Rattle.blocks.specs.View.{pointer-at, seen-by}
 use Rattle.blocks.specs.Effect.{Effect, effect-of}
-use Rattle.blocks.specs.Work.{pointer-node, matrix-put, effect-put, effect-as, outputs}
+use Rattle.blocks.specs.Work.{pointer-node, matrix-put, change-put, effect-put, effect-as, outputs}
 use Rattle.blocks.specs.Answer.{finished, refused}
 use Rattle.pointed.specs.Call.{compare-fault, pointed-fault}
 
@@ -56,9 +56,9 @@ unfolding kind-of seen-by effect-of work-fault
 work-answer one t on = unless (work-fault one (length t)) (finished (outputs on (effect-here one t on))) (refused (work-fault one (length t)))
 
 unfoldable pub work-table : Located → List ℕ → Power → List ℕ
-unfolding kind-of seen-by effect-of matrix-put work-fault
+unfolding kind-of seen-by effect-of matrix-put change-put work-fault
 work-table one t on =
-    unless (work-fault one (length t)) (effect-put (one .middle) (pointer-word (kind-of (one .block .kind)) one) (effect-here one t on) t) t
+    unless (work-fault one (length t)) (effect-put (one .middle) (one .block .n) (pointer-word (kind-of (one .block .kind)) one) (effect-here one t on) t) t
 
 -- ---- the pointer that a block shows
 

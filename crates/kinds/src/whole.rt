@@ -22,7 +22,7 @@ pub(crate) fn logic(
     on: Power,
 ) -> Worked
     ensures { λ r. ⌜
-        Does (fault longest-whole (length (now (table .entry))) n s d) on (combined-at operation (now (table .entry)) s d n on) d s
+        Does (fault longest-whole (length (now (table .entry))) n s d) on (combined-at operation (now (table .entry)) s d n on) d n s
         (now (table .entry)) r (now (table .exit)) ⌝ }
 {
     let number = runs::fault(LONGEST_WHOLE, table.len(), n, s, d);
@@ -39,7 +39,7 @@ pub(crate) fn logic(
 // The n words from s on moved one position: left with power on middle, the bit that leaves entering with power on bottom.
 pub(crate) fn rotate(table: &mut [u16], s: usize, d: usize, n: usize, on: Power) -> Worked
     ensures { λ r. ⌜
-        Does (fault longest-whole (length (now (table .entry))) n s d) on (rotated-at (now (table .entry)) s n on) d s
+        Does (fault longest-whole (length (now (table .entry))) n s d) on (rotated-at (now (table .entry)) s n on) d n s
         (now (table .entry)) r (now (table .exit)) ⌝ }
 {
     let number = runs::fault(LONGEST_WHOLE, table.len(), n, s, d);

@@ -18,7 +18,9 @@ read-answer t s n p =
 abbrev pub put-verdict : List ℕ → ℕ → ℕ → ℕ → Verdict
 put-verdict t s n p = placeless (fault-at (length t) n s p)
 
--- every other bit stays as it was
+-- one bit of the n words from s on put on or off; every other bit stays as it was
+abbrev pub bit-put : List ℕ → ℕ → ℕ → ℕ → Bool → List ℕ
+bit-put t s n p on = placed t s (matrix n (λ q. cond (eqb q p) on (bit (run t s n) q)))
+
 unfoldable pub put-table : List ℕ → ℕ → ℕ → ℕ → Bool → List ℕ
-put-table t s n p on =
-    unless (fault-at (length t) n s p) (placed t s (matrix n (λ q. cond (eqb q p) on (bit (run t s n) q)))) t
+put-table t s n p on = unless (fault-at (length t) n s p) (bit-put t s n p on) t

@@ -23,7 +23,7 @@ use Rattle.search.proofs.Sought.{at-means-first}
 use Rattle.blocks.specs.declared.Power.{Power}
 use Rattle.blocks.specs.View.{View, seen}
 use Rattle.blocks.specs.Effect.{Effect, idle, into, found, compare}
-use Rattle.blocks.specs.Work.{matrix-put, one-word, shows}
+use Rattle.blocks.specs.Work.{matrix-put, change-put, one-word, shows}
 use Rattle.pointed.specs.Call.{compared-at}
 use Rattle.blocks.proofs.Doing.{Did, by-effect}
 use Rattle.pointed.proofs.Stored.{word-put}
@@ -71,10 +71,10 @@ module _ (at : ℕ) (t : List ℕ) (s p n : ℕ) (on : Power) where
   chosen a = cond a (found n seen-here sought) (idle (cond (on .middle) (some (start .at)) none))
 
   pub compare-off : on .top ≡ false → {w : ℕ} → w ≡ start .at → {table : List ℕ}
-      → table ≡ matrix-put p (one-word (cond (on .middle) (some w) none)) t → Did on (compared-at at t s p n on) p p t (shows (on .top) false false) table
-  unfolding compare seen-here sought chosen matrix-put
+      → table ≡ matrix-put p (one-word (cond (on .middle) (some w) none)) t → Did on (compared-at at t s p n on) p n p t (shows (on .top) false false) table
+  unfolding compare seen-here sought chosen matrix-put change-put
   compare-off e {w} q {table} h =
-      by-effect on p p t (shows (on .top) false false) table (ap chosen e) (record {
+      by-effect on p n p t (shows (on .top) false false) table (ap chosen e) (record {
         answers = refl;
         leaves = h ∙ ap (λ (x : ℕ). matrix-put p (one-word (cond (on .middle) (some x) none)) t) q;
       })
@@ -85,18 +85,18 @@ module _ (at : ℕ) (t : List ℕ) (s p n : ℕ) (on : Power) where
     answer = unless-done (fault longest-whole (length t) n s (p + 1)) (reported sought) (Refused (placeless (fault longest-whole (length t) n s (p + 1)))) (fault-none longest-whole (length t) n s (p + 1) h)
 
     pub compare-found : {here : ℕ} → first-difference t s (p + 1) n (in-range start .at) ≡ At here
-        → Did on (compared-at at t s p n on) p p t (shows (on .top) true (bit (run t s n) here)) (set t p here)
-    unfolding compare seen-here sought chosen matrix-put found
+        → Did on (compared-at at t s p n on) p n p t (shows (on .top) true (bit (run t s n) here)) (set t p here)
+    unfolding compare seen-here sought chosen matrix-put change-put found
     compare-found {here} q =
-        by-effect on p p t (shows (on .top) true (bit (run t s n) here)) (set t p here)
+        by-effect on p n p t (shows (on .top) true (bit (run t s n) here)) (set t p here)
         (ap chosen e ∙ ap (found n seen-here) (position sought here (sym answer ∙ q)))
         (record { answers = refl; leaves = word-put t p here (omega (arith, h .second)) })
 
     pub compare-none : (r : Difference) → r ≡ first-difference t s (p + 1) n (in-range start .at) → NoPosition r
-        → Did on (compared-at at t s p n on) p p t (shows (on .top) false false) (set t p (16 * n))
-    unfolding compare seen-here sought chosen matrix-put found
+        → Did on (compared-at at t s p n on) p n p t (shows (on .top) false false) (set t p (16 * n))
+    unfolding compare seen-here sought chosen matrix-put change-put found
     compare-none r q g =
-        by-effect on p p t (shows (on .top) false false) (set t p (16 * n))
+        by-effect on p n p t (shows (on .top) false false) (set t p (16 * n))
         (ap chosen e ∙ ap (found n seen-here) (nowhere sought r (q ∙ answer) g))
         (record { answers = refl; leaves = word-put t p (16 * n) (omega (arith, h .second)) })
 

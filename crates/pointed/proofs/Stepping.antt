@@ -7,14 +7,15 @@ use Prim.Native.Nat.{ℕ, _*_, _≤_, _<_}
 use native.Mathlib.Omega.{arith}
 use borrow.Author.Tests.{lt-ltb, le-ltb}
 use lib.Dec.{eqb, ltb}
-use Rattle.bits.specs.Bit.{bit, matrix}
+use Rattle.bits.specs.Bit.{bit}
 use Rattle.pointer.specs.declared.Pointer.{Pointer}
 use Rattle.runs.specs.Run.{run}
 use Rattle.pointer.specs.Pointer.{reset, advanced, set-to, next-of}
 use Rattle.pointer.proofs.Pointers.{size-right, reset-to}
 use Rattle.blocks.specs.declared.Power.{Power}
-use Rattle.blocks.specs.Effect.{Effect, effect, idle, into, increased, modify, sense}
-use Rattle.blocks.specs.Work.{matrix-put, one-word, shows}
+use Rattle.blocks.specs.Effect.{Change, Effect, effect, idle, into, increased, modify, sense}
+use Rattle.blocks.specs.Effect.Change.{stays, puts}
+use Rattle.blocks.specs.Work.{matrix-put, change-put, one-word, shows}
 use Rattle.pointed.specs.Call.{modified-at, sensed-at}
 use Rattle.pointed.specs.Inner.{put-at}
 use Rattle.blocks.proofs.Doing.{Did, by-effect, idle-does}
@@ -35,31 +36,31 @@ where-asked false x y = refl
 
 -- ---- MBIT
 module _ (held : Bool) (at : ℕ) (t : List ℕ) (d p n : ℕ) (on : Power) where
-  marked : Option (List ℕ)
-  marked = cond (eqb at 0) none (some (matrix n (λ q. cond (eqb q at) (on .middle) (bit (run t d n) q))))
+  marked : Change
+  marked = cond (eqb at 0) stays (puts at (on .middle))
 
   modified : Bool → Bool → Effect
   modified power over =
       cond power
-      (cond over (effect none none false true)
+      (cond over (effect stays none false true)
       (effect marked (increased (held && on .bottom) none (into n at)) (on .middle && not (eqb at 0)) false))
       (idle none)
 
-  pub modify-off : on .top ≡ false → Did on (modified-at held at t d n on) d p t (shows (on .top) false false) t
+  pub modify-off : on .top ≡ false → Did on (modified-at held at t d n on) d n p t (shows (on .top) false false) t
   unfolding modify modified marked
-  modify-off e = by-effect on d p t (shows (on .top) false false) t (ap (λ (a : Bool). modified a (ltb (16 * n) at)) e) (idle-does on d p t)
+  modify-off e = by-effect on d n p t (shows (on .top) false false) t (ap (λ (a : Bool). modified a (ltb (16 * n) at)) e) (idle-does on d n p t)
 
-  pub modify-over : on .top ≡ true → 16 * n < at → Did on (modified-at held at t d n on) d p t (shows (on .top) false true) t
-  unfolding modify modified marked matrix-put
+  pub modify-over : on .top ≡ true → 16 * n < at → Did on (modified-at held at t d n on) d n p t (shows (on .top) false true) t
+  unfolding modify modified marked matrix-put change-put
   modify-over e l =
-      by-effect on d p t (shows (on .top) false true) t (ap₂ modified e (lt-ltb (16 * n) at l)) (record { answers = refl; leaves = refl })
+      by-effect on d n p t (shows (on .top) false true) t (ap₂ modified e (lt-ltb (16 * n) at l)) (record { answers = refl; leaves = refl })
 
   pub modify-on : on .top ≡ true → at ≤ 16 * n → {asked : Bool} → asked ≡ (held && on .bottom) → {w : ℕ} → w ≡ next-of asked (into n at)
       → {there table : List ℕ} → there ≡ put-at t d n at (on .middle) → table ≡ matrix-put p (one-word (cond asked (some w) none)) there
-      → {middle : Bool} → middle ≡ (on .middle && not (eqb at 0)) → Did on (modified-at held at t d n on) d p t (shows (on .top) middle false) table
+      → {middle : Bool} → middle ≡ (on .middle && not (eqb at 0)) → Did on (modified-at held at t d n on) d n p t (shows (on .top) middle false) table
   unfolding modify modified marked
   modify-on e l {asked} r {w} q {there} {table} h k {middle} m =
-      by-effect on d p t (shows (on .top) middle false) table (ap₂ modified e (le-ltb (16 * n) at l)) (record {
+      by-effect on d n p t (shows (on .top) middle false) table (ap₂ modified e (le-ltb (16 * n) at l)) (record {
         answers = ap (λ (a : Bool). shows (on .top) a false) m;
         leaves =
             k
@@ -85,14 +86,14 @@ module _ (held : Bool) (at : ℕ) (t : List ℕ) (s p n : ℕ) (on : Power) wher
   sensed : Bool → Bool → Effect
   sensed power over =
       cond power
-      (cond over (effect none left false true) (effect none (increased (held && on .middle) left begun) (bit (run t s n) (begun .at)) false))
+      (cond over (effect stays left false true) (effect stays (increased (held && on .middle) left begun) (bit (run t s n) (begun .at)) false))
       (idle left)
 
   pub sense-off : on .top ≡ false → {w : ℕ} → w ≡ begun .at → {asked : Bool} → asked ≡ (held && on .bottom)
-      → {table : List ℕ} → table ≡ matrix-put p (one-word (cond asked (some w) none)) t → Did on (sensed-at held at t s n on) s p t (shows (on .top) false false) table
-  unfolding sense sensed left matrix-put
+      → {table : List ℕ} → table ≡ matrix-put p (one-word (cond asked (some w) none)) t → Did on (sensed-at held at t s n on) s n p t (shows (on .top) false false) table
+  unfolding sense sensed left matrix-put change-put
   sense-off e {w} q {asked} r {table} k =
-      by-effect on s p t (shows (on .top) false false) table (ap (λ (a : Bool). sensed a (ltb (16 * n) (begun .at))) e) (record {
+      by-effect on s n p t (shows (on .top) false false) table (ap (λ (a : Bool). sensed a (ltb (16 * n) (begun .at))) e) (record {
         answers = refl;
         leaves = k ∙ (λ i. matrix-put p (one-word (cond (r i) (some (q i)) none)) t);
       })
@@ -106,11 +107,11 @@ module _ (held : Bool) (at : ℕ) (t : List ℕ) (s p n : ℕ) (on : Power) wher
       go false h = refl
       go true h = absurd (omega (arith, reset-to-one n at l u))
 
-  pub sense-over : 1 ≤ n → n ≤ 255 → on .top ≡ true → 16 * n < begun .at → Did on (sensed-at held at t s n on) s p t (shows (on .top) false true) t
-  unfolding sense sensed left matrix-put
+  pub sense-over : 1 ≤ n → n ≤ 255 → on .top ≡ true → 16 * n < begun .at → Did on (sensed-at held at t s n on) s n p t (shows (on .top) false true) t
+  unfolding sense sensed left matrix-put change-put
   sense-over low high e l =
-      by-effect on s p t (shows (on .top) false true) t
-      (ap₂ sensed e (lt-ltb (16 * n) (begun .at) l) ∙ ap (λ (o : Option ℕ). effect none o false true) (not-reset low high l))
+      by-effect on s n p t (shows (on .top) false true) t
+      (ap₂ sensed e (lt-ltb (16 * n) (begun .at) l) ∙ ap (λ (o : Option ℕ). effect stays o false true) (not-reset low high l))
       (record { answers = refl; leaves = refl })
 
   -- a pointer is written once where it is reset or increased
@@ -120,10 +121,10 @@ module _ (held : Bool) (at : ℕ) (t : List ℕ) (s p n : ℕ) (on : Power) wher
 
   pub sense-on : on .top ≡ true → begun .at ≤ 16 * n → {inc : Bool} → inc ≡ (held && on .middle) → {asked : Bool} → asked ≡ (inc || (held && on .bottom))
       → {w : ℕ} → w ≡ next-of inc begun → {table : List ℕ} → table ≡ matrix-put p (one-word (cond asked (some w) none)) t
-      → {middle : Bool} → middle ≡ bit (run t s n) (begun .at) → Did on (sensed-at held at t s n on) s p t (shows (on .top) middle false) table
-  unfolding sense sensed left matrix-put
+      → {middle : Bool} → middle ≡ bit (run t s n) (begun .at) → Did on (sensed-at held at t s n on) s n p t (shows (on .top) middle false) table
+  unfolding sense sensed left matrix-put change-put
   sense-on e l {inc} c {asked} r {w} q {table} k {middle} m =
-      by-effect on s p t (shows (on .top) middle false) table (ap₂ sensed e (le-ltb (16 * n) (begun .at) l)) (record {
+      by-effect on s n p t (shows (on .top) middle false) table (ap₂ sensed e (le-ltb (16 * n) (begun .at) l)) (record {
         answers = ap (λ (a : Bool). shows (on .top) a false) m;
         leaves =
             k

@@ -2,33 +2,34 @@
 use mathlib.Core.Path.{_≡_, refl, sym, ap, _∙_}
 use mathlib.Core.Bool.{Bool, cond}
 use mathlib.Core.List.{List, [], _∷_}
-use mathlib.Core.Option.{none, some}
+use mathlib.Core.Option.{some}
 use Prim.Native.Nat.{ℕ, _+_, _*_, _≤_, _<_}
 use native.Mathlib.Omega.{arith}
 use borrow.Author.Tests.{eq-eqb, ne-eqb}
 use lib.Dec.{eqb}
 use lib.ListN.{length, set}
-use Rattle.bits.specs.Bit.{bit, matrix, longest}
+use Rattle.bits.specs.Bit.{longest}
 use Rattle.runs.specs.Run.{run, placed, fault-at, Accepted}
-use Rattle.matrix.specs.Single.{put-table}
+use Rattle.matrix.specs.Single.{bit-put, put-table}
 use Rattle.runs.proofs.Refusals.{unless-done, fault-at-none}
 use Rattle.matrix.proofs.Runs.{run-length}
 use Rattle.matrix.proofs.Singles.{placed-set}
-use Rattle.blocks.specs.Work.{matrix-put, one-word}
+use Rattle.blocks.specs.Effect.Change.{stays, puts}
+use Rattle.blocks.specs.Work.{matrix-put, change-put, one-word}
 use Rattle.pointed.specs.Inner.{put-at}
 
 -- ---- one bit put
 module _ (t : List ℕ) (d n p : ℕ) (on : Bool) where
   pub none-put : p ≡ 0 → t ≡ put-at t d n p on
-  unfolding matrix-put
-  none-put e = ap (λ (a : Bool). matrix-put d (cond a none (some (matrix n (λ q. cond (eqb q p) on (bit (run t d n) q))))) t) (sym (eq-eqb p 0 e))
+  unfolding change-put
+  none-put e = ap (λ (a : Bool). change-put d n (cond a stays (puts p on)) t) (sym (eq-eqb p 0 e))
 
   pub one-put : (p ≡ 0 → ⊥) → Accepted longest (length t) n d d → p ≤ 16 * n → put-table t d n p on ≡ put-at t d n p on
-  unfolding matrix-put put-table
+  unfolding change-put put-table
   one-put e h l =
-      unless-done (fault-at (length t) n d p) (placed t d (matrix n (λ q. cond (eqb q p) on (bit (run t d n) q)))) t
+      unless-done (fault-at (length t) n d p) (bit-put t d n p on) t
       (fault-at-none (length t) n d p (record { run-accepted = h; counted = omega arith; within = l }))
-      ∙ ap (λ (a : Bool). matrix-put d (cond a none (some (matrix n (λ q. cond (eqb q p) on (bit (run t d n) q))))) t) (sym (ne-eqb p 0 e))
+      ∙ ap (λ (a : Bool). change-put d n (cond a stays (puts p on)) t) (sym (ne-eqb p 0 e))
 
 -- ---- the pointer: a word stored is a matrix of one word put
 alone : (m : List ℕ) (w : ℕ) → length m ≡ 1 → set m 0 w ≡ w ∷ []

@@ -20,7 +20,7 @@ ghost use Rattle.pointed.specs.Call.{compare-fault, compared-at};
 pub fn compare(table: &mut [u16], node: Node, s: usize, p: usize, n: usize, on: Power) -> Worked
     ensures { λ r. ⌜
         Does (compare-fault (length (now (table .entry))) n s p) on
-        (compared-at (pointer-at node p (now (table .entry))) (now (table .entry)) s p n on) p p
+        (compared-at (pointer-at node p (now (table .entry))) (now (table .entry)) s p n on) p n p
         (now (table .entry)) r (now (table .exit)) ⌝ }
 {
     let words = table.len();

@@ -50,7 +50,7 @@ fn put_at(table: &mut [u16], d: usize, n: usize, p: u16, on: bool)
 pub fn modify(table: &mut [u16], node: Node, p: usize, d: usize, n: usize, on: Power) -> Worked
     ensures { λ r. ⌜
         Does (pointed-fault (length (now (table .entry))) node p n d) on
-        (modified-at (eqb (node .class) 4) (pointer-at node p (now (table .entry))) (now (table .entry)) d n on) d p
+        (modified-at (eqb (node .class) 4) (pointer-at node p (now (table .entry))) (now (table .entry)) d n on) d n p
         (now (table .entry)) r (now (table .exit)) ⌝ }
 {
     let number = pointed_fault(table.len(), node, p, n, d);
@@ -76,7 +76,7 @@ pub fn modify(table: &mut [u16], node: Node, p: usize, d: usize, n: usize, on: P
 pub fn sense(table: &mut [u16], node: Node, p: usize, s: usize, n: usize, on: Power) -> Worked
     ensures { λ r. ⌜
         Does (pointed-fault (length (now (table .entry))) node p n s) on
-        (sensed-at (eqb (node .class) 4) (pointer-at node p (now (table .entry))) (now (table .entry)) s n on) s p
+        (sensed-at (eqb (node .class) 4) (pointer-at node p (now (table .entry))) (now (table .entry)) s n on) s n p
         (now (table .entry)) r (now (table .exit)) ⌝ }
 {
     let number = pointed_fault(table.len(), node, p, n, s);

@@ -3,7 +3,7 @@ use mathlib.Core.Path.{_≡_, refl, sym, ap₂, _∙_, subst}
 use mathlib.Core.Bool.{Bool, true, false, not, _&&_, _||_, false≢true}
 use mathlib.Core.List.{List}
 use mathlib.Core.Logic.{_⊎_, inl, inr, ⊎-elim}
-use mathlib.Core.Option.{Option, none, some}
+use mathlib.Core.Option.{some}
 use Prim.Native.Nat.{ℕ, _+_, _-_, _*_, _/_, _≤_, _<_}
 use native.Mathlib.Omega.{arith}
 use borrow.Author.Tests.{leb-true, le-leb, eqb-true, eq-eqb, ne-eqb}
@@ -16,12 +16,13 @@ use Rattle.network.specs.Network.{Network, block-of}
 use Rattle.blocks.specs.declared.Power.{Power}
 use Rattle.blocks.specs.Kind.{kind-of}
 use Rattle.blocks.specs.View.{first-word}
-use Rattle.blocks.specs.Effect.{Effect}
-use Rattle.blocks.specs.Work.{pointer-node, matrix-put, one-word, effect-on, block-table}
-use Rattle.blocks.specs.Truths.{Runs}
-use Rattle.blocks.proofs.Places.{writes}
-use Rattle.blocks.proofs.Puts.{Off, run-bits}
-use Rattle.blocks.proofs.Written.{NoCoil, with-pointer, work-spares, work-spares-word, coils-spare, coils-spare-word}
+use Rattle.blocks.specs.Effect.{Change, Effect}
+use Rattle.blocks.specs.Effect.Change.{stays, becomes, puts}
+use Rattle.blocks.specs.Work.{pointer-node, matrix-put, change-put, one-word, effect-on, block-table}
+use Rattle.blocks.specs.Truths.{Runs, NoCoil}
+use Rattle.blocks.proofs.Places.{Destination, writes}
+use Rattle.blocks.proofs.Puts.{Off, Makes, run-bits}
+use Rattle.blocks.proofs.Written.{with-pointer, work-spares, work-spares-word, coils-spare, coils-spare-word}
 use Rattle.rounds.specs.Demand3.{source-in, matrix-in, register-index, register-in, SameBits}
 use Rattle.rounds.specs.Tests.{apart, outside, coil-outside, coils-outside, writes-matrix, writes-pointer, block-outside}
 
@@ -129,11 +130,10 @@ module _ (net : Network) (i : ℕ) where
     rest = both-true _ _ (tests .1)
 
     -- what it writes lies outside
-    destination-off : (m : List ℕ) → effect-on net b t on .destination ≡ some m → Outside (first-word net (b .middle)) (length m)
-    destination-off m q =
-        let d = writes net earlier b t r on .destination .each m q in
+    destination-off : Destination net b → Outside (first-word net (b .middle)) (b .n)
+    destination-off d =
         let does : writes-matrix b ≡ true = ap₂ (λ (x y : Bool). not (x || y)) (ne-eqb (b .kind) 5 (d .no-compare)) (ne-eqb (b .kind) 7 (d .no-sense)) in
-        subst (Outside (first-word net (b .middle))) (sym (d .as-long)) (outside-means _ _ (unless-true _ _ (tests .0) does))
+        outside-means _ _ (unless-true _ _ (tests .0) does)
 
     pointer-off : (m : List ℕ) → one-word (effect-on net b t on .pointer) ≡ some m → Outside (first-word net (pointer-node (kind-of (b .kind)) b)) (length m)
     pointer-off m q =
@@ -147,9 +147,9 @@ module _ (net : Network) (i : ℕ) where
         keeps t (block-table net b t on)
         (λ p h.
         coils-spare net b t on earlier r p (off-coils b p (rest .1) h)
-        ∙ work-spares net b t on earlier r p (λ m q. off (destination-off m q) h) (λ m q. off (pointer-off m q) h))
+        ∙ work-spares net b t on earlier r p (λ d. off (destination-off d) h) (λ m q. off (pointer-off m q) h))
         (coils-spare-word net b t on earlier r (register-index net i) held
-        ∙ work-spares-word net b t on earlier r (register-index net i) (λ m q. off-word (destination-off m q)) (λ m q. off-word (pointer-off m q)))
+        ∙ work-spares-word net b t on earlier r (register-index net i) (λ d. off-word (destination-off d)) (λ m q. off-word (pointer-off m q)))
 
   -- ---- the block itself, after its own pointer step: its coils
   module _ (earlier : ℕ) (t : List ℕ) (r : Runs net earlier (block-of net i) t) (on : Power) (held : net .sizes .coils ≤ register-index net i)
@@ -158,18 +158,19 @@ module _ (net : Network) (i : ℕ) where
     own = effect-on net (block-of net i) t on
 
     -- a compare writes no destination
-    no-destination : own .destination ≡ none
+    no-destination : own .destination ≡ stays
     unfolding own
-    no-destination = go (own .destination) refl
+    no-destination = go (own .destination) (writes net earlier (block-of net i) t r on .destination)
       where
-        go : (o : Option (List ℕ)) → own .destination ≡ o → o ≡ none
-        go none q = refl
-        go (some m) q = absurd (writes net earlier (block-of net i) t r on .destination .each m q .no-compare compares)
+        go : (c : Change) → Makes (Destination net (block-of net i)) (block-of net i .n) c → c ≡ stays
+        go stays h = refl
+        go (becomes m) h = absurd (h .0 .no-compare compares)
+        go (puts p x) h = absurd (h .0 .no-compare compares)
 
     step-is : with-pointer net (block-of net i) t on ≡ matrix-put (register-index net i) (one-word (own .pointer)) t
-    unfolding own kind-of matrix-put
+    unfolding own kind-of matrix-put change-put
     step-is =
-        ap₂ (λ (k : ℕ) (d : Option (List ℕ)). matrix-put (first-word net (pointer-node (kind-of k) (block-of net i))) (one-word (own .pointer)) (matrix-put (register-index net i) d t))
+        ap₂ (λ (k : ℕ) (c : Change). matrix-put (first-word net (pointer-node (kind-of k) (block-of net i))) (one-word (own .pointer)) (change-put (register-index net i) (block-of net i .n) c t))
         compares no-destination
 
     pub own-keeps : Keeps net i (matrix-put (register-index net i) (one-word (effect-on net (block-of net i) t on .pointer)) t) (block-table net (block-of net i) t on)

@@ -26,7 +26,7 @@ use Rattle.blocks.specs.declared.Outputs.{Outputs}
 use Rattle.blocks.specs.Kind.{kind-of}
 use Rattle.blocks.specs.View.{View, first-word, seen, view}
 use Rattle.blocks.specs.Effect.{Effect, idle, into, zeroed, found, compare, effect-of}
-use Rattle.blocks.specs.Work.{pointer-node, matrix-put, one-word, effect-on, block-outputs}
+use Rattle.blocks.specs.Work.{pointer-node, matrix-put, change-put, one-word, effect-on, block-outputs}
 use Rattle.blocks.proofs.Puts.{run-bits, word-inside, bit-outside}
 use Rattle.blocks.proofs.Written.{coils-spare-word}
 use Rattle.inputs.specs.Input.{power-on}
@@ -160,8 +160,8 @@ module _ {net : Network} {i m : ℕ} {given : ℕ → List ℕ} (R : Scanning ne
     pointed x = placed t pw (x ∷ [])
 
     -- a compare writes its pointer and nothing else before its coils
-    stepped-is : (o : Option ℕ) → matrix-put pw (one-word (found n v o .pointer)) (matrix-put pw (found n v o .destination) t) ≡ pointed (ends f (16 * n) o)
-    unfolding matrix-put pointed found
+    stepped-is : (o : Option ℕ) → matrix-put pw (one-word (found n v o .pointer)) (change-put pw n (found n v o .destination) t) ≡ pointed (ends f (16 * n) o)
+    unfolding matrix-put change-put pointed found
     stepped-is none = refl
     stepped-is (some p) = refl
 
@@ -178,10 +178,10 @@ module _ {net : Network} {i m : ℕ} {given : ℕ → List ℕ} (R : Scanning ne
     stepped-here = ap (λ (e : Effect). matrix-put pw (one-word (e .pointer)) t) effect-is ∙ step-is found-here
 
     done-pointer : getD (done-by net i (given j)) pw 0 ≡ ends f (16 * n) found-here
-    unfolding b pw t on kind-of found-here pointed
+    unfolding b n pw t on kind-of found-here pointed
     done-pointer =
         coils-spare-word net b t on i (record { good = good; exact = long }) pw after-coils
-        ∙ ap₂ (λ (e : Effect) (k : ℕ). getD (matrix-put (first-word net (pointer-node (kind-of k) b)) (one-word (e .pointer)) (matrix-put pw (e .destination) t)) pw 0) effect-is (S .compares)
+        ∙ ap₂ (λ (e : Effect) (k : ℕ). getD (matrix-put (first-word net (pointer-node (kind-of k) b)) (one-word (e .pointer)) (change-put pw n (e .destination) t)) pw 0) effect-is (S .compares)
         ∙ ap (λ (u : List ℕ). getD u pw 0) (stepped-is found-here)
         ∙ put-there t pw (ends f (16 * n) found-here) pointer-inside
 

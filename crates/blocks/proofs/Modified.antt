@@ -1,0 +1,69 @@
+-- MBIT touches one bit: of what a block writes, its destination's part, where the block is an MBIT. Assumes nothing.
+use mathlib.Core.Path.{_≡_, refl, sym, ap, ap₂, _∙_, subst}
+use mathlib.Core.Bool.{Bool, true, false, not, cond, _&&_}
+use mathlib.Core.Option.{none, some}
+use Prim.Native.Nat.{ℕ, _+_, _*_}
+use native.Mathlib.Omega.{arith}
+use borrow.Author.Tests.{ltb-true, ltb-false, eqb-true, eqb-false, le-leb, lt-leb}
+use lib.Dec.{eqb, leb, ltb}
+use Rattle.bits.specs.Bit.{bit}
+use Rattle.blocks.specs.declared.Power.{Power}
+use Rattle.blocks.specs.Kind.{kind-of}
+use Rattle.blocks.specs.Kind.Kind.{MBIT}
+use Rattle.blocks.specs.View.{View, first-word, view}
+use Rattle.blocks.specs.Effect.{Effect, effect, idle, into, increased, modify, effect-of}
+use Rattle.blocks.specs.Effect.Change.{stays, puts}
+use Rattle.blocks.specs.Work.{pointer-node}
+use Rattle.blocks.specs.Truths.{change-bit, or-stays, ModifiesOneBit}
+use Rattle.blocks.proofs.Written.{beside-pointer}
+use Rattle.blocks.proofs.Puts.{Off}
+
+-- ---- the rule's change of its destination, by bits
+module _ (held : Bool) (n : ℕ) (v : View) (on : Power) (d p : ℕ) (x : Bool) where
+  abbrev at : ℕ
+  at = v .pointer
+
+  put : cond (eqb p (16 * d + at)) (on .middle) x ≡ or-stays (change-bit d (puts at (on .middle)) p) x
+  put = go (eqb p (16 * d + at))
+    where
+      go : (a : Bool) → cond a (on .middle) x ≡ or-stays (cond a (some (on .middle)) none) x
+      go true = refl
+      go false = refl
+
+  one-bit : or-stays (change-bit d (modify held n v on .destination) p) x
+      ≡ cond (on .top && (leb 1 at && leb at (16 * n))) (cond (eqb p (16 * d + at)) (on .middle) x) x
+  unfolding modify
+  one-bit = by-power (on .top)
+    where
+      worked : Bool → Bool → Effect
+      worked over zero-there =
+          cond over (effect stays none false true)
+          (effect (cond zero-there stays (puts at (on .middle))) (increased (held && on .bottom) none (into n at)) (on .middle && not zero-there) false)
+
+      go : (over : Bool) → ltb (16 * n) at ≡ over → (zero-there : Bool) → eqb at 0 ≡ zero-there
+          → or-stays (change-bit d (worked over zero-there .destination) p) x
+          ≡ cond (leb 1 at && leb at (16 * n)) (cond (eqb p (16 * d + at)) (on .middle) x) x
+      go true e z f =
+          ap (λ (a : Bool). cond a (cond (eqb p (16 * d + at)) (on .middle) x) x)
+          (sym (ap₂ _&&_ (le-leb 1 at (omega (arith, ltb-true (16 * n) at e))) (lt-leb at (16 * n) (ltb-true (16 * n) at e))))
+      go false e true f =
+          ap (λ (a : Bool). cond (a && leb at (16 * n)) (cond (eqb p (16 * d + at)) (on .middle) x) x) (sym (lt-leb 1 at (omega (arith, eqb-true at 0 f))))
+      go false e false f =
+          sym put
+          ∙ ap (λ (a : Bool). cond a (cond (eqb p (16 * d + at)) (on .middle) x) x)
+          (sym (ap₂ _&&_ (le-leb 1 at (omega (arith, eqb-false at 0 f))) (le-leb at (16 * n) (ltb-false (16 * n) at e))))
+
+      by-power : (power : Bool)
+          → or-stays (change-bit d (cond power (worked (ltb (16 * n) at) (eqb at 0)) (idle none) .destination) p) x
+          ≡ cond (power && (leb 1 at && leb at (16 * n))) (cond (eqb p (16 * d + at)) (on .middle) x) x
+      by-power true = go (ltb (16 * n) at) refl (eqb at 0) refl
+      by-power false = refl
+
+pub modifies-one-bit : ModifiesOneBit
+unfolding kind-of effect-of view
+modifies-one-bit net earlier b t r mbit on p beside =
+    beside-pointer net b t on earlier r p (beside .no-coil)
+    (subst (λ (k : ℕ). pointer-node (kind-of k) b .class ≡ 4 → Off (first-word net (pointer-node (kind-of k) b)) 1 p) (sym mbit) (beside .no-pointer))
+    ∙ ap (λ (k : ℕ). or-stays (change-bit (first-word net (b .middle))
+    (effect-of (kind-of k) (eqb (pointer-node (kind-of k) b .class) 4) (b .n) (view (kind-of k) net b t) on .destination) p) (bit t p)) mbit
+    ∙ one-bit (eqb (b .top .class) 4) (b .n) (view MBIT net b t) on (first-word net (b .middle)) p (bit t p)
