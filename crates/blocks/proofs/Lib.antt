@@ -8,4 +8,5 @@ pub mod Modified
 pub mod Places
 pub mod Puts
 pub mod Reported
+pub mod Viewed
 pub mod Written

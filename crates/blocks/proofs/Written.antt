@@ -7,20 +7,20 @@ use mathlib.Core.Logic.{_⊎_, inl, inr, ⊎-elim}
 use mathlib.Core.Option.{Option, none, some}
 use Prim.Native.Nat.{ℕ, _+_, _*_, _≤_, _<_}
 use native.Mathlib.Omega.{arith}
-use lib.Dec.{eqb}
 use lib.ListN.{length, getD}
 use Rattle.bits.specs.Bit.{bit}
 use Rattle.record.specs.declared.Block.{Block}
 use Rattle.network.specs.Network.{Network}
 use Rattle.table.specs.Table.{total}
 use Rattle.blocks.specs.declared.Power.{Power}
-use Rattle.blocks.specs.Kind.{Kind, kind-of}
-use Rattle.blocks.specs.View.{View, first-word}
-use Rattle.blocks.specs.Effect.{Effect, effect-of}
+use Rattle.blocks.specs.Kind.{kind-of}
+use Rattle.blocks.specs.View.{first-word}
+use Rattle.blocks.specs.Effect.{Effect}
 use Rattle.blocks.specs.Work.{pointer-node, one-word, matrix-put, change-put, coil-put, outputs, effect-on, block-outputs, block-table}
 use Rattle.blocks.specs.Truths.{matrix-bit, change-bit, coil-bit, later, bit-written, or-stays, Runs, NoCoil, SameLong, EveryBit, Frame, InputsStay, KeyRule}
 use Rattle.blocks.proofs.Places.{Fits, Destination, Register, Writes, writes}
 use Rattle.blocks.proofs.Puts.{Off, Room, Makes, makes-so, put-length, put-bits, put-spares, put-spares-word, change-length, change-bits, change-spares, change-spares-word, coil-length, coil-bits, coil-spares, coil-word}
+use Rattle.blocks.proofs.Viewed.{effect-same}
 
 or-later : (a w : Option Bool) (x : Bool) → or-stays (later a w) x ≡ or-stays a (or-stays w x)
 or-later none w x = refl
@@ -177,21 +177,15 @@ inputs-stay net earlier b t r on p l u =
 -- ---- the key rule
 pub key-rule : KeyRule
 unfolding block-outputs
-key-rule net earlier b t u r s same on = (outs, bits)
+key-rule net earlier b t u r s agree on = (ap (outputs on) same, bits)
   where
-    kind : Kind
-    kind = kind-of (b .kind)
-
-    effect-by : View → Effect
-    effect-by v = effect-of kind (eqb (pointer-node kind b .class) 4) (b .n) v on
-
-    outs : block-outputs net b t on ≡ block-outputs net b u on
-    outs = ap (λ (v : View). outputs on (effect-by v)) same
+    same : effect-on net b t on ≡ effect-on net b u on
+    same = effect-same net b t u (r .good .length-low) agree on
 
     bits : (p : ℕ) (x : Bool) → bit-written net b on (effect-on net b t on) p ≡ some x
         → (bit (block-table net b t on) p ≡ x) × (bit (block-table net b u on) p ≡ x)
     bits p x q = (
       every-bit net earlier b t r on p ∙ ap (λ (o : Option Bool). or-stays o (bit t p)) q,
       every-bit net earlier b u s on p
-          ∙ ap (λ (o : Option Bool). or-stays o (bit u p)) (ap (λ (v : View). bit-written net b on (effect-by v) p) (sym same) ∙ q),
+          ∙ ap (λ (o : Option Bool). or-stays o (bit u p)) (ap (λ (e : Effect). bit-written net b on e p) (sym same) ∙ q),
     )

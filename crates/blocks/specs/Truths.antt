@@ -16,8 +16,9 @@ use Rattle.network.specs.Network.{Network}
 use Rattle.table.specs.Table.{total}
 use Rattle.rules.specs.Sound.{GoodBlock}
 use Rattle.blocks.specs.declared.Power.{Power}
-use Rattle.blocks.specs.Kind.{kind-of}
-use Rattle.blocks.specs.View.{View, first-word, pointer-in, view}
+use Rattle.blocks.specs.Kind.{Kind, kind-of}
+use Rattle.blocks.specs.Kind.Kind.{AND, OR, XOR, COMP, CMPR, MBIT, SENS, BROT}
+use Rattle.blocks.specs.View.{View, first-word, pointer-in}
 use Rattle.blocks.specs.Effect.{Change, Effect, zeroed, compare}
 use Rattle.blocks.specs.Effect.Change.{stays, becomes, puts}
 use Rattle.blocks.specs.Work.{pointer-node, one-word, effect-on, block-outputs, block-table}
@@ -108,15 +109,62 @@ InputsStay =
     (net : Network) (earlier : ℕ) (b : Block) (t : List ℕ) → Runs net earlier b t → (on : Power) (p : ℕ) →
     16 * net .sizes .coils < p → p ≤ 16 * (net .sizes .coils + net .sizes .discretes + net .sizes .inputs) → bit (block-table net b t on) p ≡ bit t p
 
--- the key rule: two tables that agree on what a block reads, with equal inputs, give equal outputs and equal values in every
--- bit that the block writes
+-- ---- the key rule
+
+-- the index of the first word of a block's source: SENS's source is its middle matrix; MBIT has none
+abbrev pub source-at : Kind → Network → Block → Option ℕ
+source-at AND net b = some (first-word net (b .top))
+source-at OR net b = some (first-word net (b .top))
+source-at XOR net b = some (first-word net (b .top))
+source-at COMP net b = some (first-word net (b .top))
+source-at CMPR net b = some (first-word net (b .top))
+source-at MBIT net b = none
+source-at SENS net b = some (first-word net (b .middle))
+source-at BROT net b = some (first-word net (b .top))
+
+-- of its destination matrix where the kind is AND, OR, XOR, CMPR or MBIT; CMPR's stands after its pointer
+abbrev pub destination-at : Kind → Network → Block → Option ℕ
+destination-at AND net b = some (first-word net (b .middle))
+destination-at OR net b = some (first-word net (b .middle))
+destination-at XOR net b = some (first-word net (b .middle))
+destination-at COMP net b = none
+destination-at CMPR net b = some (first-word net (b .middle) + 1)
+destination-at MBIT net b = some (first-word net (b .middle))
+destination-at SENS net b = none
+destination-at BROT net b = none
+
+-- its pointer, where its kind has one
+abbrev pub pointer-of : Kind → Network → Block → List ℕ → Option ℕ
+pointer-of AND net b t = none
+pointer-of OR net b t = none
+pointer-of XOR net b t = none
+pointer-of COMP net b t = none
+pointer-of CMPR net b t = some (pointer-in net (b .middle) t)
+pointer-of MBIT net b t = some (pointer-in net (b .top) t)
+pointer-of SENS net b t = some (pointer-in net (b .top) t)
+pointer-of BROT net b t = none
+
+-- two tables have the same bits in the n words from an index on, where there is one
+abbrev pub SameFrom : Option ℕ → ℕ → List ℕ → List ℕ → Type 0
+SameFrom none n t u = Unit {0}
+SameFrom (some s) n t u = (p : ℕ) → 16 * s < p → p ≤ 16 * (s + n) → bit t p ≡ bit u p
+
+-- two tables agree on a block's source, on its destination matrix and on its pointer
+pub record Agree (net : Network) (b : Block) (t u : List ℕ) : Type 0 where
+  pub on-source : SameFrom (source-at (kind-of (b .kind)) net b) (b .n) t u
+  pub on-destination : SameFrom (destination-at (kind-of (b .kind)) net b) (b .n) t u
+  pub on-pointer : pointer-of (kind-of (b .kind)) net b t ≡ pointer-of (kind-of (b .kind)) net b u
+
+-- two tables that agree on a block's source, on its destination matrix where the kind is AND, OR, XOR, CMPR or MBIT, and on its
+-- pointer, with equal three inputs, give equal outputs and equal values in every bit that the block writes
 abbrev pub KeyRule : Type 0
 KeyRule =
-    (net : Network) (earlier : ℕ) (b : Block) (t u : List ℕ) → Runs net earlier b t → Runs net earlier b u →
-    view (kind-of (b .kind)) net b t ≡ view (kind-of (b .kind)) net b u → (on : Power) →
+    (net : Network) (earlier : ℕ) (b : Block) (t u : List ℕ) → Runs net earlier b t → Runs net earlier b u → Agree net b t u → (on : Power) →
     (block-outputs net b t on ≡ block-outputs net b u on)
     × ((p : ℕ) (x : Bool) → bit-written net b on (effect-on net b t on) p ≡ some x →
     (bit (block-table net b t on) p ≡ x) × (bit (block-table net b u on) p ≡ x))
+
+-- ---- the compare
 
 -- a compare with power reports none exactly when no position differs above the pointer, taken in range
 abbrev pub NoneMeansNone : Type 0
