@@ -1,6 +1,5 @@
--- The laws of the definitions, for the proofs here and in the crates above; the theorems; the examples.
+-- The laws of the definitions, for the proofs here and in the crates above; the theorems.
 pub mod Determined
-pub mod Examples
 pub mod Kept
 pub mod Moving
 pub mod Runs

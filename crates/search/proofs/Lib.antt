@@ -1,5 +1,4 @@
--- The laws of the search, for the proofs here and in the crates above; what its answer means; the examples.
+-- The laws of the search, for the proofs here and in the crates above; what its answer means.
 pub mod Determined
-pub mod Examples
 pub mod Searching
 pub mod Sought
