@@ -12,9 +12,11 @@ use Rattle.matrix.specs.declared.logic.Operation.{Operation}
 use Rattle.matrix.specs.declared.answer.Answer.{Answer}
 use Rattle.matrix.specs.declared.answer.Answer.the-variants.{Bit, Refused}
 use Rattle.runs.specs.Run.{run, fault, Accepted}
+use Rattle.matrix.specs.Answer.{bit-said}
 use Rattle.matrix.specs.Logic.{combined, combine-verdict, combine-table}
-use Rattle.matrix.specs.Move.{leaving, moved, move-answer, move-table}
+use Rattle.matrix.specs.Move.{leaving, moved, move-said, move-table}
 use Rattle.runs.proofs.Refusals.{unless-done, fault-none}
+use Rattle.matrix.proofs.Answers.{told}
 use Rattle.blocks.specs.declared.Power.{Power}
 use Rattle.blocks.specs.Effect.{effect, idle, logic, rotate}
 use Rattle.blocks.specs.Effect.Change.{becomes}
@@ -37,7 +39,7 @@ module _ (operation : Operation) (t : List ℕ) (s d n : ℕ) (on : Power) where
       (idle-does on d n s t)
 
   pub logic-on : on .top ≡ true → Accepted longest-whole (length t) n s d → {v : Verdict} {table : List ℕ}
-      → Leaves (combine-verdict t s d n) (combine-table operation t s d n) v table
+      → Leaves (combine-verdict (length t) s d n) (combine-table operation t s d n) v table
       → Did on (combined-at operation t s d n on) d n s t (shows (on .top) false false) table
   unfolding logic matrix-put change-put combine-table
   logic-on e h {v} {table} l =
@@ -58,14 +60,14 @@ module _ (t : List ℕ) (s d n : ℕ) (on : Power) where
       (idle-does on d n s t)
 
   pub rotate-on : on .top ≡ true → Accepted longest-whole (length t) n s d → {r : Answer} {table : List ℕ}
-      → Leaves (move-answer (on .middle) t s d n) (move-table (on .middle) (on .bottom) t s d n) r table
+      → Leaves (move-said (on .middle) t s d n) (move-table (on .middle) (on .bottom) t s d n) (bit-said r) table
       → {x : Answer} → x ≡ r → Did on (rotated-at t s n on) d n s t (shows (on .top) (answered x) false) table
-  unfolding rotate matrix-put change-put move-table move-answer answered
+  unfolding rotate matrix-put change-put move-table answered
   rotate-on e h {r} {table} l {x} q =
       let taken = fault-none longest-whole (length t) n s d h in
       by-effect on d n s t (shows (on .top) (answered x) false) table
       (ap (λ (a : Bool). cond a (effect (becomes (matrix n (moved (on .middle) (on .bottom) (run t s n) n))) none (leaving (on .middle) (run t s n) n) false) (idle none)) e)
       (record {
-        answers = ap (λ (a : Answer). shows (on .top) (answered a) false) (q ∙ l .answers ∙ unless-done (fault longest-whole (length t) n s d) _ _ taken);
+        answers = ap (λ (a : Answer). shows (on .top) (answered a) false) (q ∙ told (fault longest-whole (length t) n s d) (leaving (on .middle) (run t s n) n) r (l .answers) ∙ unless-done (fault longest-whole (length t) n s d) _ _ taken);
         leaves = l .leaves ∙ unless-done (fault longest-whole (length t) n s d) _ t taken;
       })

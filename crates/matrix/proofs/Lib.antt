@@ -1,4 +1,5 @@
 -- The laws of the definitions, for the proofs here and in the crates above; the theorems.
+pub mod Answers
 pub mod Determined
 pub mod Kept
 pub mod Moving

@@ -17,15 +17,15 @@ combined Or s d = s || d
 combined Xor s d = xor s d
 combined Comp s d = not s
 
--- n words from s on are the source, n words from d on the destination
-abbrev pub combine-fault : List ℕ → ℕ → ℕ → ℕ → ℕ
-combine-fault t s d n = fault longest-whole (length t) n s d
+-- n words from s on are the source, n words from d on the destination, in a table of so many words
+abbrev pub combine-fault : ℕ → ℕ → ℕ → ℕ → ℕ
+combine-fault words s d n = fault longest-whole words n s d
 
-abbrev pub combine-verdict : List ℕ → ℕ → ℕ → ℕ → Verdict
-combine-verdict t s d n = placeless (combine-fault t s d n)
+abbrev pub combine-verdict : ℕ → ℕ → ℕ → ℕ → Verdict
+combine-verdict words s d n = placeless (combine-fault words s d n)
 
 unfoldable pub combine-table : Operation → List ℕ → ℕ → ℕ → ℕ → List ℕ
 combine-table operation t s d n =
-    unless (combine-fault t s d n)
+    unless (combine-fault (length t) s d n)
     (placed t d (matrix n (λ p. combined operation (bit (run t s n) p) (bit (run t d n) p))))
     t

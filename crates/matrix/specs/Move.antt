@@ -6,9 +6,9 @@ use mathlib.Core.List.{List}
 use lib.Dec.{eqb}
 use lib.ListN.{length}
 use Rattle.bits.specs.Bit.{bit, matrix, longest-whole}
-use Rattle.matrix.specs.declared.{answer.Answer.Answer, answer.Answer.the-variants.Bit, answer.Answer.the-variants.Refused}
 use Rattle.runs.specs.Run.{run, placed, fault, unless}
 use Rattle.verdict.specs.Verdict.{placeless}
+use Rattle.verdict.specs.Said.{Said, said-by}
 
 -- the bit of an n-word matrix that leaves it
 abbrev pub leaving : Bool → List ℕ → ℕ → Bool
@@ -25,14 +25,15 @@ moved left wrap m n p =
     (cond (eqb p (16 * n)) (entering left wrap m n) (bit m (p + 1)))
     (cond (eqb p 1) (entering left wrap m n) (bit m (p - 1)))
 
--- n words from s on are the source, n words from d on the destination; the answer is the bit that left
-unfoldable pub move-answer : Bool → List ℕ → ℕ → ℕ → ℕ → Answer
-move-answer left t s d n =
-    unless (fault longest-whole (length t) n s d)
-    (Bit (leaving left (run t s n) n))
-    (Refused (placeless (fault longest-whole (length t) n s d)))
+-- n words from s on are the source, n words from d on the destination, in a table of so many words
+abbrev pub move-fault : ℕ → ℕ → ℕ → ℕ → ℕ
+move-fault words s d n = fault longest-whole words n s d
+
+-- the answer is the bit that left
+abbrev pub move-said : Bool → List ℕ → ℕ → ℕ → ℕ → Said Bool
+move-said left t s d n = said-by (placeless (move-fault (length t) s d n)) (leaving left (run t s n) n)
 
 unfoldable pub move-table : Bool → Bool → List ℕ → ℕ → ℕ → ℕ → List ℕ
 unfolding moved
 move-table left wrap t s d n =
-    unless (fault longest-whole (length t) n s d) (placed t d (matrix n (moved left wrap (run t s n) n))) t
+    unless (move-fault (length t) s d n) (placed t d (matrix n (moved left wrap (run t s n) n))) t

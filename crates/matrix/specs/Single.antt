@@ -6,17 +6,17 @@ use lib.Dec.{eqb}
 use lib.ListN.{length}
 use Rattle.verdict.specs.declared.Verdict.{Verdict}
 use Rattle.bits.specs.Bit.{bit, matrix}
-use Rattle.matrix.specs.declared.{answer.Answer.Answer, answer.Answer.the-variants.Bit, answer.Answer.the-variants.Refused}
 use Rattle.runs.specs.Run.{run, placed, fault-at, unless}
 use Rattle.verdict.specs.Verdict.{placeless}
+use Rattle.verdict.specs.Said.{Said, said-by}
 
 -- the matrix is the n words from s on
-unfoldable pub read-answer : List ℕ → ℕ → ℕ → ℕ → Answer
-read-answer t s n p =
-    unless (fault-at (length t) n s p) (Bit (bit (run t s n) p)) (Refused (placeless (fault-at (length t) n s p)))
+abbrev pub read-said : List ℕ → ℕ → ℕ → ℕ → Said Bool
+read-said t s n p = said-by (placeless (fault-at (length t) n s p)) (bit (run t s n) p)
 
-abbrev pub put-verdict : List ℕ → ℕ → ℕ → ℕ → Verdict
-put-verdict t s n p = placeless (fault-at (length t) n s p)
+-- in a table of so many words
+abbrev pub put-verdict : ℕ → ℕ → ℕ → ℕ → Verdict
+put-verdict words s n p = placeless (fault-at words n s p)
 
 -- one bit of the n words from s on put on or off; every other bit stays as it was
 abbrev pub bit-put : List ℕ → ℕ → ℕ → ℕ → Bool → List ℕ

@@ -5,6 +5,7 @@ use runs::fault;
 use verdict::Verdict;
 ghost use mathlib.Core.Path.{_≡_};
 ghost use Prim.Native.Nat.{_+_, _<_};
+ghost use lib.ListN.{length};
 ghost use Rattle.bits.specs.Bit.{of, word-with};
 ghost use Rattle.verdict.specs.Promise.{Leaves};
 ghost use Rattle.matrix.specs.Logic.{combined, combine-verdict, combine-table};
@@ -31,7 +32,7 @@ fn combined(operation: Operation, s: u16, d: u16) -> u16
 // The destination's n words from d on become the operation on them and the n words of the source from s on.
 pub fn combine(table: &mut [u16], operation: Operation, s: usize, d: usize, n: usize) -> Verdict
     ensures { λ r. ⌜
-        Leaves (combine-verdict (now (table .entry)) s d n) (combine-table operation (now (table .entry)) s d n)
+        Leaves (combine-verdict (length (now (table .entry))) s d n) (combine-table operation (now (table .entry)) s d n)
         r (now (table .exit)) ⌝ }
 {
     let number = fault(LONGEST_WHOLE, table.len(), n, s, d);

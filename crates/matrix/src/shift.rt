@@ -9,7 +9,8 @@ ghost use mathlib.Core.Bool.{cond};
 ghost use Rattle.bits.specs.Bit.{of, word-with};
 ghost use Rattle.bits.specs.Word.{rightward, leftward};
 ghost use Rattle.verdict.specs.Promise.{Leaves};
-ghost use Rattle.matrix.specs.Move.{move-answer, move-table};
+ghost use Rattle.matrix.specs.Answer.{bit-said};
+ghost use Rattle.matrix.specs.Move.{move-said, move-table};
 
 // A word moved by one, with the end bit of the word after it or before it masked in.
 fn moved(left: bool, before: u16, w: u16, after: u16) -> u16
@@ -44,8 +45,8 @@ fn leaving(left: bool, first: u16, last: u16) -> bool
 // The n words from s on, moved by one position, become the n words from d on; the answer is the bit that left.
 pub fn move_one(table: &mut [u16], s: usize, d: usize, n: usize, left: bool, wrap: bool) -> Answer
     ensures { λ r. ⌜
-        Leaves (move-answer left (now (table .entry)) s d n) (move-table left wrap (now (table .entry)) s d n)
-        r (now (table .exit)) ⌝ }
+        Leaves (move-said left (now (table .entry)) s d n) (move-table left wrap (now (table .entry)) s d n)
+        (bit-said r) (now (table .exit)) ⌝ }
 {
     let number = fault(LONGEST_WHOLE, table.len(), n, s, d);
     if number != 0 {

@@ -15,10 +15,11 @@ use Rattle.search.specs.declared.Difference.{Difference}
 use Rattle.search.specs.declared.Difference.the-variants.{At, Nothing, Refused}
 use Rattle.runs.specs.Run.{run, fault, Accepted}
 use Rattle.verdict.specs.Verdict.{placeless}
-use Rattle.search.specs.Search.{first-differing, reported, first-difference}
+use Rattle.search.specs.Search.{first-differing, difference-said, first-said}
 use Rattle.pointer.specs.Pointer.{in-range, set-to}
 use Rattle.search.proofs.Difference.{the-type}
 use Rattle.runs.proofs.Refusals.{unless-done, fault-none}
+use Rattle.search.proofs.Answers.{reported, first-difference}
 use Rattle.search.proofs.Sought.{at-means-first}
 use Rattle.blocks.specs.declared.Power.{Power}
 use Rattle.blocks.specs.View.{View, seen}
@@ -101,5 +102,5 @@ module _ (at : ℕ) (t : List ℕ) (s p n : ℕ) (on : Power) where
         (record { answers = refl; leaves = word-put t p (16 * n) (omega (arith, h .second)) })
 
   -- a position that is found is one of the matrix
-  pub found-inside : (above : ℕ) {here : ℕ} → first-difference t s (p + 1) n above ≡ At here → here ≤ 16 * n
-  found-inside above {here} q = at-means-first t s (p + 1) n above here .0 q .1 .inside
+  pub found-inside : (above : ℕ) {here : ℕ} (r : Difference) → difference-said r ≡ first-said t s (p + 1) n above → r ≡ At here → here ≤ 16 * n
+  found-inside above {here} r said q = at-means-first t s (p + 1) n above here r said .0 q .1 .inside

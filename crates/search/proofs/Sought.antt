@@ -14,7 +14,8 @@ use Rattle.verdict.specs.declared.Verdict.{Verdict}
 use Rattle.search.specs.declared.Difference.the-variants.{At, Nothing, Refused}
 use Rattle.runs.specs.Run.{run, fault}
 use Rattle.bits.specs.Bit.{longest-whole}
-use Rattle.search.specs.Search.{differing, first, first-differing, reported, first-difference, NoneLater, FirstLater, NothingMeansNone, AtMeansFirst}
+use Rattle.search.specs.Search.{differing, first, first-differing, NoneLater, FirstLater, NothingMeansNone, AtMeansFirst}
+use Rattle.search.proofs.Answers.{reported, first-difference, told}
 use Rattle.runs.proofs.Refusals.{unless-done, unless-refused}
 
 -- ---- the first of the k positions after i at which f is on
@@ -103,17 +104,25 @@ module _ (t : List ℕ) (a b n above : ℕ) where
   not-refused h = elim (ℕ-discrete (fault longest-whole (length t) n a b) 0) [ yes e ↦ e | no d ↦ absurd (h _ (unless-refused _ _ _ d)) ]
 
 pub nothing-means-none : NothingMeansNone
-nothing-means-none t a b n above = (
+nothing-means-none t a b n above r said = (
   (λ e.
+      let answer : first-difference t a b n above ≡ Nothing = sym (told t a b n above r said) ∙ e in
       let ok = not-refused t a b n above (λ v q. let z : _≡_ {A = ℕ} 0 1 = cc in omega arith) in
-      (ok, none-later (run t a n) (run t b n) n above _ (outcome (run t a n) (run t b n) n above) (sym (answered t a b n above ok) ∙ e))),
-  (λ h. answered t a b n above (h .0) ∙ nothing (run t a n) (run t b n) n above _ (outcome (run t a n) (run t b n) n above) (h .1)),
+      (ok, none-later (run t a n) (run t b n) n above _ (outcome (run t a n) (run t b n) n above) (sym (answered t a b n above ok) ∙ answer))),
+  (λ h.
+      told t a b n above r said
+      ∙ answered t a b n above (h .0)
+      ∙ nothing (run t a n) (run t b n) n above _ (outcome (run t a n) (run t b n) n above) (h .1)),
 )
 
 pub at-means-first : AtMeansFirst
-at-means-first t a b n above p = (
+at-means-first t a b n above p r said = (
   (λ e.
+      let answer : first-difference t a b n above ≡ At p = sym (told t a b n above r said) ∙ e in
       let ok = not-refused t a b n above (λ v q. let z : _≡_ {A = ℕ} 0 1 = cc in omega arith) in
-      (ok, first-later (run t a n) (run t b n) n above p _ (outcome (run t a n) (run t b n) n above) (sym (answered t a b n above ok) ∙ e))),
-  (λ h. answered t a b n above (h .0) ∙ position (run t a n) (run t b n) n above p _ (outcome (run t a n) (run t b n) n above) (h .1)),
+      (ok, first-later (run t a n) (run t b n) n above p _ (outcome (run t a n) (run t b n) n above) (sym (answered t a b n above ok) ∙ answer))),
+  (λ h.
+      told t a b n above r said
+      ∙ answered t a b n above (h .0)
+      ∙ position (run t a n) (run t b n) n above p _ (outcome (run t a n) (run t b n) n above) (h .1)),
 )

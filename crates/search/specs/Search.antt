@@ -8,8 +8,9 @@ use mathlib.Core.Option.{Option, none, some}
 use lib.ListN.{length}
 use Rattle.bits.specs.Bit.{bit, longest-whole}
 use Rattle.search.specs.declared.{Difference.Difference, Difference.the-variants.At, Difference.the-variants.Nothing, Difference.the-variants.Refused}
-use Rattle.runs.specs.Run.{run, fault, unless}
-use Rattle.verdict.specs.Verdict.{placeless}
+use Rattle.runs.specs.Run.{run, fault}
+use Rattle.verdict.specs.Verdict.{done, placeless}
+use Rattle.verdict.specs.Said.{Said, said-by}
 
 -- two matrices differ at a position
 abbrev pub differing : List ℕ → List ℕ → ℕ → Bool
@@ -24,18 +25,18 @@ first f i (suc k) = cond (f (suc i)) (some (suc i)) (first f (suc i) k)
 abbrev pub first-differing : List ℕ → List ℕ → ℕ → ℕ → Option ℕ
 first-differing a b n above = first (differing a b) above (16 * n - above)
 
--- what the search answers: a position, or nothing
-abbrev pub reported : Option ℕ → Difference
-reported none = Nothing
-reported (some p) = At p
+-- what the search's answer says: done and a position or none, or a refusal (document 01, "Numbers returned")
+abbrev pub difference-said : Difference → Said (Option ℕ)
+difference-said (At p) = record { verdict = done; value = some (some p) }
+difference-said Nothing = record { verdict = done; value = some none }
+difference-said (Refused v) = record { verdict = v; value = none }
 
--- the matrices are the n words from a on and the n words from b on
-unfoldable pub first-difference : List ℕ → ℕ → ℕ → ℕ → ℕ → Difference
-unfolding first
-first-difference t a b n above =
-    unless (fault longest-whole (length t) n a b)
-    (reported (first-differing (run t a n) (run t b n) n above))
-    (Refused (placeless (fault longest-whole (length t) n a b)))
+-- the matrices are the n words from a on and the n words from b on, in a table of so many words
+abbrev pub search-fault : ℕ → ℕ → ℕ → ℕ → ℕ
+search-fault words a b n = fault longest-whole words n a b
+
+abbrev pub first-said : List ℕ → ℕ → ℕ → ℕ → ℕ → Said (Option ℕ)
+first-said t a b n above = said-by (placeless (search-fault (length t) a b n)) (first-differing (run t a n) (run t b n) n above)
 
 -- ---- what the answer means
 
@@ -53,11 +54,11 @@ pub record FirstLater (a b : List ℕ) (n above p : ℕ) : Type 0 where
 -- the call answers nothing exactly when it is not refused and no later position differs
 abbrev pub NothingMeansNone : Type 0
 NothingMeansNone =
-    (t : List ℕ) (a b n above : ℕ) →
-    (first-difference t a b n above ≡ Nothing) ↔ ((fault longest-whole (length t) n a b ≡ 0) × NoneLater (run t a n) (run t b n) n above)
+    (t : List ℕ) (a b n above : ℕ) (r : Difference) → difference-said r ≡ first-said t a b n above →
+    (r ≡ Nothing) ↔ ((search-fault (length t) a b n ≡ 0) × NoneLater (run t a n) (run t b n) n above)
 
 -- and a position exactly when that is the first later one that differs
 abbrev pub AtMeansFirst : Type 0
 AtMeansFirst =
-    (t : List ℕ) (a b n above p : ℕ) →
-    (first-difference t a b n above ≡ At p) ↔ ((fault longest-whole (length t) n a b ≡ 0) × FirstLater (run t a n) (run t b n) n above p)
+    (t : List ℕ) (a b n above p : ℕ) (r : Difference) → difference-said r ≡ first-said t a b n above →
+    (r ≡ At p) ↔ ((search-fault (length t) a b n ≡ 0) × FirstLater (run t a n) (run t b n) n above p)

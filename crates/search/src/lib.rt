@@ -11,7 +11,7 @@ ghost use lib.ListN.{length};
 ghost use Rattle.bits.specs.Bit.{longest-whole};
 ghost use Rattle.runs.specs.Run.{Accepted};
 ghost use Rattle.search.specs.Inner.{Passed, Paired, Equal};
-ghost use Rattle.search.specs.Search.{first-difference};
+ghost use Rattle.search.specs.Search.{difference-said, first-said};
 
 // A position, counted from 1, at which two matrices differ; nothing, where no later position differs; or a refusal.
 pub enum Difference {
@@ -78,7 +78,7 @@ fn passed_from(table: &[u16], a: usize, b: usize, n: usize, above: usize) -> usi
 
 // The first position above `above` at which the n words from a on and the n words from b on differ.
 pub fn first_difference(table: &[u16], a: usize, b: usize, n: usize, above: u16) -> Difference
-    ensures { λ r. ⌜ r ≡ first-difference (now (table .entry)) a b n above ⌝ }
+    ensures { λ r. ⌜ difference-said r ≡ first-said (now (table .entry)) a b n above ⌝ }
 {
     let number = fault(LONGEST_WHOLE, table.len(), n, a, b);
     if number != 0 {

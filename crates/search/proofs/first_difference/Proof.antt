@@ -12,7 +12,7 @@ use Rattle.search.specs.declared.Difference.the-variants.{Refused}
 use Rattle.runs.specs.Run.{fault, Accepted}
 use Rattle.bits.specs.Bit.{longest-whole}
 use Rattle.verdict.specs.Verdict.{placeless}
-use Rattle.search.specs.Search.{reported, first-difference}
+use Rattle.search.proofs.Answers.{reported, first-difference, says}
 use Rattle.runs.proofs.Refusals.{accepted, fault-none, unless-done, unless-refused}
 use Rattle.search.proofs.first_difference.Statement.{statement}
 use Rattle.search.proofs.first_difference.Tie as tie
@@ -26,8 +26,9 @@ fault-requires c κs = search needs
 returns : tie.Need-returns
 unfolding first-difference
 returns c =
+    let x = c .before .before .before .args in
     let e = c .before .fault .ensures in
-    ap (λ (k : ℕ). Refused (placeless k)) e ∙ sym (unless-refused _ _ _ (λ z. c .if1 .taken (e ∙ z)))
+    says (x .table .now) (x .a) (x .b) (x .n) (x .above) _ (ap (λ (k : ℕ). Refused (placeless k)) e ∙ sym (unless-refused _ _ _ (λ z. c .if1 .taken (e ∙ z))))
 
 passed-from-requires : tie.Need-passed-from-requires
 passed-from-requires c κs = runs c
@@ -44,18 +45,22 @@ cast-t12 c = let h = runs (c .before .before) in omega arith
 returns-2 : tie.Need-returns-2
 unfolding first-difference
 returns-2 c =
+    let x = c .before .before .before .before .before .args in
     let p = c .before .passed-from .result in
-    ap (λ (b : Bool). reported (cond b (some (p + 1)) none)) (sym (lt-ltb _ _ (c .if2 .taken)))
+    says (x .table .now) (x .a) (x .b) (x .n) (x .above) _
+    (ap (λ (b : Bool). reported (cond b (some (p + 1)) none)) (sym (lt-ltb _ _ (c .if2 .taken)))
     ∙ ap reported (sym (c .before .passed-from .ensures))
-    ∙ sym (unless-done _ _ _ (fault-none _ _ _ _ _ (runs (c .before .before))))
+    ∙ sym (unless-done _ _ _ (fault-none _ _ _ _ _ (runs (c .before .before)))))
 
 returns-3 : tie.Need-returns-3
 unfolding first-difference
 returns-3 c =
+    let x = c .before .before .before .before .before .args in
     let p = c .before .passed-from .result in
-    ap (λ (b : Bool). reported (cond b (some (p + 1)) none)) (sym (le-ltb _ _ (c .if2 .left)))
+    says (x .table .now) (x .a) (x .b) (x .n) (x .above) _
+    (ap (λ (b : Bool). reported (cond b (some (p + 1)) none)) (sym (le-ltb _ _ (c .if2 .left)))
     ∙ ap reported (sym (c .before .passed-from .ensures))
-    ∙ sym (unless-done _ _ _ (fault-none _ _ _ _ _ (runs (c .before .before))))
+    ∙ sym (unless-done _ _ _ (fault-none _ _ _ _ _ (runs (c .before .before)))))
 
 pub first-difference-spec : {M : Type 1} → statement M
 first-difference-spec =

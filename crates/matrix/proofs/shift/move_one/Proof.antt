@@ -12,8 +12,9 @@ use Rattle.bits.specs.Word.{leftward, rightward}
 use Rattle.matrix.specs.declared.answer.Answer.the-variants.{Bit, Refused}
 use Rattle.runs.specs.Run.{run, placed, fault, Accepted}
 use Rattle.verdict.specs.Verdict.{placeless}
-use Rattle.matrix.specs.Move.{moved, leaving, move-answer, move-table}
+use Rattle.matrix.specs.Move.{moved, leaving, move-table}
 use Rattle.runs.proofs.Refusals.{accepted, fault-none, unless-done, unless-refused}
+use Rattle.matrix.proofs.Answers.{says}
 use Rattle.matrix.proofs.Runs.{Overwriting, none-yet, same-long, one-more, all-done, source-bit}
 use Rattle.matrix.proofs.Moving.{after-inside, after-last, before-first, before-next, moved-word, left-over}
 use Rattle.matrix.proofs.shift.move_one.Statement.{statement}
@@ -78,11 +79,11 @@ fault-requires : tie.Need-fault-requires Inv-loop μ-loop
 fault-requires c κs = search needs
 
 returns : tie.Need-returns Inv-loop μ-loop
-unfolding move-answer move-table
+unfolding move-table
 returns c =
     let e = c .before .fault .ensures in
     record {
-      answers = ap (λ (k : ℕ). Refused (placeless k)) e ∙ sym (unless-refused _ _ _ (λ z. c .if1 .taken (e ∙ z)));
+      answers = says _ _ _ (ap (λ (k : ℕ). Refused (placeless k)) e ∙ sym (unless-refused _ _ _ (λ z. c .if1 .taken (e ∙ z))));
       leaves = sym (unless-refused _ _ _ (λ z. c .if1 .taken (e ∙ z)));
     }
 
@@ -172,12 +173,12 @@ same-length : tie.Need-same-length Inv-loop μ-loop
 same-length c = simp length-set (same-long (c .before .before .before .before .loop .inv .over))
 
 returns-2 : tie.Need-returns-2 Inv-loop μ-loop
-unfolding move-answer move-table
+unfolding move-table
 returns-2 c =
     let v = c .before .before .before .before .loop .inv in
     let none = fault-none _ _ _ _ _ (v .over .runs) in
     record {
-      answers = ap Bit (c .leaving .ensures ∙ left-bit v) ∙ sym (unless-done _ _ _ none);
+      answers = says _ _ _ (ap Bit (c .leaving .ensures ∙ left-bit v) ∙ sym (unless-done _ _ _ none));
       leaves =
           last-word v _ (c .before .before .before .loop-test .left) (c .before .before .beyond2 .ensures) (c .before .moved2 .ensures)
           ∙ sym (unless-done _ _ _ none);

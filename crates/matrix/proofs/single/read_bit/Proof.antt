@@ -7,8 +7,8 @@ use lib.ListN.{length}
 use Rattle.matrix.specs.declared.answer.Answer.the-variants.{Bit, Refused}
 use Rattle.runs.specs.Run.{fault-at, Positioned}
 use Rattle.verdict.specs.Verdict.{placeless}
-use Rattle.matrix.specs.Single.{read-answer}
 use Rattle.runs.proofs.Refusals.{located, unless-done, unless-refused}
+use Rattle.matrix.proofs.Answers.{says}
 use Rattle.matrix.proofs.Singles.{single-bit}
 use Rattle.matrix.proofs.single.read_bit.Statement.{statement}
 use Rattle.matrix.proofs.single.read_bit.Tie as tie
@@ -23,10 +23,9 @@ fault-at-requires : tie.Need-fault-at-requires
 fault-at-requires c κs = search needs
 
 returns : tie.Need-returns
-unfolding read-answer
 returns c =
     let e = c .before .fault-at .ensures in
-    ap (λ (k : ℕ). Refused (placeless k)) e ∙ sym (unless-refused _ _ _ (λ z. c .if1 .taken (e ∙ z)))
+    says _ _ _ (ap (λ (k : ℕ). Refused (placeless k)) e ∙ sym (unless-refused _ _ _ (λ z. c .if1 .taken (e ∙ z))))
 
 sub-i : tie.Need-sub-i
 sub-i c = at c .counted
@@ -50,11 +49,11 @@ bit-at-requires : tie.Need-bit-at-requires
 bit-at-requires c κs = search needs
 
 returns-2 : tie.Need-returns-2
-unfolding read-answer
 returns-2 c =
     let h = at (c .before .before) in
-    ap Bit (c .bit-at .ensures ∙ single-bit _ _ _ _ (h .run-accepted .first) (h .counted) (h .within))
-    ∙ sym (unless-done _ _ _ (none (c .before .before)))
+    says _ _ _
+    (ap Bit (c .bit-at .ensures ∙ single-bit _ _ _ _ (h .run-accepted .first) (h .counted) (h .within))
+    ∙ sym (unless-done _ _ _ (none (c .before .before))))
 
 pub read-bit-spec : {M : Type 1} → statement M
 read-bit-spec =

@@ -9,7 +9,7 @@ use lib.ListN.{length}
 use Rattle.pointer.specs.declared.Pointer.{Pointer}
 use Rattle.bits.specs.Bit.{longest-whole}
 use Rattle.runs.specs.Run.{Accepted}
-use Rattle.search.specs.Search.{first-difference}
+use Rattle.search.proofs.Answers.{first-difference, told}
 use Rattle.pointer.specs.Pointer.{in-range, set-to}
 use Rattle.runs.proofs.Refusals.{accepted}
 use Rattle.blocks.specs.View.{pointer-at}
@@ -46,7 +46,7 @@ sought : (c : tie.After-first-difference) → let x = c .before .before .before 
     c .first-difference .result ≡ first-difference (now (x .table)) (x .s) (x .p + 1) (x .n) (in-range (start (pointer-at (x .node) (x .p) (now (x .table))) (now (x .table)) (x .s) (x .p) (x .n) (x .on)) .at)
 sought c =
     let x = c .before .before .before .before .before .before .before .before .before .before .before .before .before .args in
-    c .first-difference .ensures
+    told (now (x .table)) (x .s) (x .p + 1) (x .n) (c .before .before .in-range .result .at) (c .first-difference .result) (c .first-difference .ensures)
     ∙ ap (λ (q : Pointer). first-difference (now (x .table)) (x .s) (x .p + 1) (x .n) (q .at)) (c .before .before .in-range .ensures ∙ ap in-range (began (c .before .before .before .before .before .before)))
 
 refused-requires : tie.Need-refused-requires
@@ -134,7 +134,7 @@ bit-requires c κs =
     let h = lies (c .before .before .before .before .before .before .before .before .before .before .before .before .before) in (
       record { some-words = h .some-words; few = omega (arith, h .few); first = omega (arith, h .first, h .second); second = omega (arith, h .first, h .second) },
       found-inside (pointer-at (x .node) (x .p) (now (x .table))) (now (x .table)) (x .s) (x .p) (x .n) (x .on) (c .before .before .before .before .before .before .in-range .result .at)
-          (sym (c .before .before .before .before .first-difference .ensures) ∙ c .before .before .found .given .1),
+          (c .before .before .before .before .first-difference .result) (c .before .before .before .before .first-difference .ensures) (c .before .before .found .given .1),
     )
 
 mul-table-2 : tie.Need-mul-table-2
