@@ -1,6 +1,5 @@
--- The numbers of a scan and the list that is filled from them, what is true of that list, and the examples.
+-- The numbers of a scan and the list that is filled from them, and what is true of that list.
 pub mod Determined
-pub mod Examples
 pub mod Kept
 pub mod Lending
 pub mod Recording
