@@ -46,6 +46,23 @@ sizes-allowed z g =
     (le-leb (z .inputs) most-inputs (g .inputs))
     (le-leb (z .holding) most-holding (g .holding))
 
+all-four : (a b c d : Bool) → ((a && b) && (c && d)) ≡ true → (a ≡ true) × (b ≡ true) × (c ≡ true) × (d ≡ true)
+all-four true true true true h = (refl, refl, refl, refl)
+all-four true true true false h = absurd (false≢true h)
+all-four true true false d h = absurd (false≢true h)
+all-four true false c d h = absurd (false≢true h)
+all-four false b c d h = absurd (false≢true h)
+
+pub allowed-sizes : (z : Sizes) → allowed z ≡ true → GoodSizes z
+allowed-sizes z h =
+    let t = all-four (leb (z .coils) most-coils) (leb (z .discretes) most-discretes) (leb (z .inputs) most-inputs) (leb (z .holding) most-holding) h in
+    record {
+      coils = leb-true (z .coils) most-coils (t .0);
+      discretes = leb-true (z .discretes) most-discretes (t .1);
+      inputs = leb-true (z .inputs) most-inputs (t .2);
+      holding = leb-true (z .holding) most-holding (t .3);
+    }
+
 -- ---- references
 aligned-from : (d r : Bool) → (d && not r) ≡ false → d ≡ true → r ≡ true
 aligned-from true true p q = refl

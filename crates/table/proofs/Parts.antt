@@ -1,16 +1,18 @@
 -- The laws of the part of a table that is a matrix. Assumes nothing.
-use mathlib.Core.Path.{_≡_, refl, ap, ap₂, _∙_}
+use mathlib.Core.Path.{_≡_, refl, sym, ap, ap₂, _∙_}
 use mathlib.Core.Bool.{Bool, true, false, cond, _&&_, false≢true}
 use mathlib.Core.List.{List, []}
 use Prim.Native.Nat.{ℕ, _+_, _≤_}
 use native.Mathlib.Omega.{arith}
-use borrow.Author.Tests.{le-leb, eq-eqb, leb-true, eqb-true}
+use borrow.Author.Tests.{le-leb, eq-eqb, ne-eqb, leb-true, eqb-true, eqb-false}
 use lib.Dec.{leb, eqb}
-use lib.ListN.{length, take, drop}
+use lib.ListN.{length, take, drop, length-drop}
+use lib.Seq.{length-take-le}
 use Rattle.table.specs.declared.sizes.Sizes.{Sizes}
 use Rattle.table.specs.Table.{allowed, total, area, size-of, before, reference-fault, start-of, shown, part}
 use Rattle.bits.specs.Bit.{longest}
-use Rattle.table.proofs.Good.{placed}
+use Rattle.table.specs.Sound.{Empty, other-class, fails-refusal, length-out, over-limit, wrong-size, EmptyExactly}
+use Rattle.table.proofs.Good.{sizes-allowed, allowed-sizes, placed}
 
 -- six tests, of which all must hold
 abbrev six : Bool → Bool → Bool → Bool → Bool → Bool → Bool
@@ -120,3 +122,61 @@ part-shown t z class number n e = ap (λ (b : Bool). cond b (take n (drop (start
 pub part-empty : (t : List ℕ) (z : Sizes) (class number n : ℕ) → shown (length t) z class number n ≡ false → part t z class number n ≡ []
 unfolding part
 part-empty t z class number n e = ap (λ (b : Bool). cond b (take n (drop (start-of z class number) t)) []) e
+
+-- ---- a part is empty exactly for one of document 01's reasons
+module _ (t : List ℕ) (z : Sizes) (class number n : ℕ) where
+  -- a part that is shown has a word
+  not-empty : shown (length t) z class number n ≡ true → part t z class number n ≡ [] → ⊥
+  not-empty h e =
+      let s : Shown (length t) z class number n = shown-means (length t) z class number n h in
+      let start : ℕ = start-of z class number in
+      let fits : start + n ≤ length t = part-within (length t) z class number n s in
+      let long : length (take n (drop start t)) ≡ n = length-take-le n (drop start t) (omega (arith, fits, length-drop start t)) in
+      omega (arith, s .some-words, long, ap length (sym (part-shown t z class number n h) ∙ e))
+
+  -- a test that fails is a reason
+  reason : (a b c d e f : Bool) → allowed z ≡ a → eqb (length t) (total z) ≡ b → leb 1 n ≡ c → leb n longest ≡ d → area class ≡ e
+      → eqb (reference-fault z class number n) 0 ≡ f → six a b c d e f ≡ false → Empty t z class number n
+  reason a b c d false f pa pb pc pd pe pf h =
+      let is : (k : ℕ) → area k ≡ true → class ≡ k → ⊥ = λ k own q. false≢true (sym pe ∙ ap area q ∙ own) in
+      other-class (is 0 refl) (is 1 refl) (is 3 refl) (is 4 refl)
+  reason a b c d true false pa pb pc pd pe pf h = fails-refusal (eqb-false (reference-fault z class number n) 0 pf)
+  reason a b false d true true pa pb pc pd pe pf h = length-out (λ q. false≢true (sym pc ∙ le-leb 1 n (q .0)))
+  reason a b true false true true pa pb pc pd pe pf h = length-out (λ q. false≢true (sym pd ∙ le-leb n longest (q .1)))
+  reason false b true true true true pa pb pc pd pe pf h = over-limit (λ g. false≢true (sym pa ∙ sizes-allowed z g))
+  reason true false true true true true pa pb pc pd pe pf h = wrong-size (eqb-false (length t) (total z) pb)
+  reason true true true true true true pa pb pc pd pe pf h = absurd (false≢true (sym h))
+
+  why : part t z class number n ≡ [] → Empty t z class number n
+  why e = go (shown (length t) z class number n) refl
+    where
+      go : (b : Bool) → shown (length t) z class number n ≡ b → Empty t z class number n
+      go true h = absurd (not-empty h e)
+      go false h =
+          reason (allowed z) (eqb (length t) (total z)) (leb 1 n) (leb n longest) (area class) (eqb (reference-fault z class number n) 0)
+          refl refl refl refl refl refl
+          (sym (shown-by (length t) z class number n _ _ _ _ _ _ refl refl refl refl refl refl) ∙ h)
+
+  -- and for a reason it is not shown
+  hidden : Empty t z class number n → shown (length t) z class number n ≡ false
+  hidden (other-class zero one three four) =
+      no-area (length t) z class number n (simp (ne-eqb class 0 zero, ne-eqb class 1 one, ne-eqb class 3 three, ne-eqb class 4 four))
+  hidden (fails-refusal h) =
+      shown-by (length t) z class number n _ _ _ _ _ false refl refl refl refl refl (ne-eqb (reference-fault z class number n) 0 h)
+      ∙ ap (λ (b : Bool). (allowed z && eqb (length t) (total z)) && ((leb 1 n && leb n longest) && b)) (never (area class))
+      ∙ fifth (allowed z && eqb (length t) (total z)) (leb 1 n && leb n longest)
+  hidden (length-out h) = go (leb 1 n) (leb n longest) refl refl
+    where
+      go : (a b : Bool) → leb 1 n ≡ a → leb n longest ≡ b → shown (length t) z class number n ≡ false
+      go false b p q = no-word (length t) z class number n p
+      go true false p q = too-long (length t) z class number n q
+      go true true p q = absurd (h (leb-true 1 n p, leb-true n longest q))
+  hidden (over-limit h) = go (allowed z) refl
+    where
+      go : (a : Bool) → allowed z ≡ a → shown (length t) z class number n ≡ false
+      go true p = absurd (h (allowed-sizes z p))
+      go false p = not-allowed (length t) z class number n p
+  hidden (wrong-size h) = other-size (length t) z class number n (ne-eqb (length t) (total z) h)
+
+pub empty-exactly : EmptyExactly
+empty-exactly t z class number n = (why t z class number n, λ r. part-empty t z class number n (hidden t z class number n r))

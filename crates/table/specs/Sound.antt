@@ -1,9 +1,14 @@
--- What sizes and references must be, said once more and without the refusals' order. Assumes nothing.
+-- What sizes and references must be, said once more and without the refusals' order, and when the part of a table is empty.
+-- Assumes nothing.
 use Prim.Native.Nat.{ℕ, _+_, _%_, _≤_}
 use mathlib.Core.Path.{_≡_}
 use mathlib.Core.Bool.{true}
+use mathlib.Core.List.{List, []}
+use mathlib.Core.Logic.{_↔_}
+use lib.ListN.{length}
+use Rattle.bits.specs.Bit.{longest}
 use Rattle.table.specs.declared.sizes.Sizes.{Sizes}
-use Rattle.table.specs.Table.{most-coils, most-discretes, most-inputs, most-holding, discrete, size-of, offset}
+use Rattle.table.specs.Table.{most-coils, most-discretes, most-inputs, most-holding, total, discrete, size-of, offset, reference-fault, part}
 
 -- the sizes of the areas are within their limits
 pub record GoodSizes (z : Sizes) : Type 0 where
@@ -17,3 +22,16 @@ pub record Placed (z : Sizes) (class number words : ℕ) : Type 0 where
   pub counted : 1 ≤ number
   pub aligned : discrete class ≡ true → number % 16 ≡ 1
   pub inside : offset class number + words ≤ size-of z class
+
+-- why a part is empty, in document 01's order: the class isn't 0, 1, 3 or 4, the request fails refusal 6, 7 or 8, the length is out
+-- of range, an area size is over its limit, or the table has the wrong size
+pub data Empty (t : List ℕ) (z : Sizes) (class number n : ℕ) : Type 0 where
+  other-class : (class ≡ 0 → ⊥) → (class ≡ 1 → ⊥) → (class ≡ 3 → ⊥) → (class ≡ 4 → ⊥) → Empty t z class number n
+  fails-refusal : (reference-fault z class number n ≡ 0 → ⊥) → Empty t z class number n
+  length-out : ((1 ≤ n) × (n ≤ longest) → ⊥) → Empty t z class number n
+  over-limit : (GoodSizes z → ⊥) → Empty t z class number n
+  wrong-size : (length t ≡ total z → ⊥) → Empty t z class number n
+
+-- a part is empty exactly then
+abbrev pub EmptyExactly : Type 0
+EmptyExactly = (t : List ℕ) (z : Sizes) (class number n : ℕ) → (part t z class number n ≡ []) ↔ Empty t z class number n
