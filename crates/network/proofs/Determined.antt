@@ -1,6 +1,7 @@
 -- Two results that a public function's contract allows are equal: each contract is one equation for the answer. Assumes nothing.
 use mathlib.Core.Path.{sym, _∙_}
 use Rattle.verdict.specs.Promise.{Decides}
+use Rattle.network.proofs.ReadAt.{said-once}
 use Rattle.network.proofs.checker.check.Reads as check-reads
 use Rattle.network.proofs.checker.leading.Reads as leading-reads
 use Rattle.network.proofs.checker.opening.Reads as opening-reads
@@ -20,7 +21,7 @@ pub opening : Decides opening-reads.Post
 opening κs a x y s t p q = p ∙ sym q
 
 pub record-at : Decides record-at-reads.Post
-record-at κs a x y s t p q = p ∙ sym q
+record-at κs a x y s t p q = said-once x y (p ∙ sym q)
 
 pub opened-verdict : Decides opened-verdict-reads.Post
 opened-verdict κs a x y s t p q = p ∙ sym q

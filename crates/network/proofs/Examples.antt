@@ -1,18 +1,19 @@
 -- Both sides of the edges of document 01, and a network for every refusal, computed by the definitions. Assumes nothing.
 use mathlib.Core.Path.{_≡_, refl}
-use mathlib.Core.List.{List, [], _∷_, _++_}
+use mathlib.Core.List.{List, [], _∷_, _++_, map}
 use Prim.Native.Nat.{ℕ}
 use Rattle.verdict.specs.declared.Verdict.{Verdict}
 use Rattle.section.specs.Walk.{seek}
 use Rattle.verdict.specs.Verdict.{verdict, done}
+use Rattle.verdict.specs.Said.{Said}
 use Rattle.section.specs.Section.{section-earns, earned, meaning, judged-from, whole, records-earn, records-in}
 use Rattle.table.specs.Table.{sizes-faults, reference-fault}
+use Rattle.record.specs.declared.Block.{Block}
 use Rattle.record.specs.Record.{block-in}
 use Rattle.rules.specs.Rules.{rule, allows}
 use Rattle.rules.specs.Fault.{faults}
-use Rattle.network.specs.declared.reading.Read.{Read}
 use Rattle.network.specs.declared.reading.Read.the-variants.{Record, Refused}
-use Rattle.network.specs.Check.{areas-section, block-faults, blocks-section, network-in, network-end, checked, opened, read-at, read}
+use Rattle.network.specs.Check.{areas-section, block-faults, blocks-section, network-in, network-end, checked, opened, read-said, read-verdict, read-at, read}
 
 -- a block's 15 words: kind, n, top and middle node, then three inputs and three coils
 abbrev block : ℕ → ℕ → ℕ → ℕ → ℕ → ℕ → List ℕ → List ℕ
@@ -107,8 +108,8 @@ abbrev wrong : List ℕ
 wrong = 5 ∷ 1 ∷ 4 ∷ 1 ∷ 4 ∷ 3 ∷ plain
 
 pub readings :
-    _≡_ {A = List Read}
+    _≡_ {A = List (Said Block)}
     (read (4 ∷ 0 ∷ 0 ∷ 0 ∷ 3 ∷ 1 ∷ compare) 1 ∷ read (4 ∷ 0 ∷ 0 ∷ 0 ∷ 3 ∷ 1 ∷ compare) 0 ∷ read (4 ∷ 0 ∷ 0 ∷ 0 ∷ 3 ∷ 1 ∷ compare) 2 ∷ read (4 ∷ 0 ∷ 0 ∷ 0 ∷ 3 ∷ 1 ∷ wrong) 1 ∷ read-at (4 ∷ 0 ∷ 0 ∷ 0 ∷ 3 ∷ 1 ∷ []) (opened (4 ∷ 0 ∷ 0 ∷ 0 ∷ 3 ∷ 1 ∷ compare)) 1 ∷ [])
-    (Record (block-in compare) ∷ Refused (verdict 12 0) ∷ Refused (verdict 12 0) ∷ Refused (verdict 8 12) ∷ Refused (verdict 12 0) ∷ [])
-unfolding read-at network-in network-end meaning records-in checked whole judged-from seek earned section-earns records-earn areas-section sizes-faults blocks-section block-faults faults block-in reference-fault rule allows
+    (map read-said (Record (block-in compare) ∷ Refused (verdict 12 0) ∷ Refused (verdict 12 0) ∷ Refused (verdict 8 12) ∷ Refused (verdict 12 0) ∷ []))
+unfolding map read-at read-verdict network-in network-end meaning records-in checked whole judged-from seek earned section-earns records-earn areas-section sizes-faults blocks-section block-faults faults block-in reference-fault rule allows
 readings = refl

@@ -5,9 +5,10 @@ use mathlib.Core.List.{List}
 use Prim.Native.Nat.{ℕ, _+_, _-_, _<_}
 use native.Mathlib.Omega.{arith}
 use lib.ListN.{drop}
+use Rattle.verdict.specs.Verdict.{done}
+use Rattle.verdict.specs.Said.{said-by}
 use Rattle.record.specs.Record.{block-in}
 use Rattle.network.specs.declared.checker.Opened.{Opened}
-use Rattle.network.specs.declared.reading.Read.the-variants.{Record}
 use Rattle.network.specs.Network.{block-of, block-count}
 use Rattle.network.specs.Check.{network-in, opened, checked, record-start, read-at}
 use Rattle.network.specs.Sound.{GoodNetwork}
@@ -27,10 +28,10 @@ opened-count ws = refl
 
 -- the reader's answer for block k + 1
 pub reads-block : (ws : List ℕ) (o : Opened) (k : ℕ) → o ≡ opened ws → checked ws .number ≡ 0 → k < block-count (network-in ws)
-    → read-at ws o (k + 1) ≡ Record (block-of (network-in ws) k)
+    → read-at ws o (k + 1) ≡ said-by done (block-of (network-in ws) k)
 reads-block ws o k e h l =
     let n : k + 1 - 1 ≡ k = omega arith in
     ap (λ (x : Opened). read-at ws x (k + 1)) e
     ∙ read-record ws (opened ws) (k + 1) h (omega arith) (omega (arith, l)) (omega (arith, whole-front ws h .1))
-    ∙ ap (λ (i : ℕ). Record (block-in (drop (record-start i) ws))) n
-    ∙ ap Record (sym (block-is ws k l))
+    ∙ ap (λ (i : ℕ). said-by done (block-in (drop (record-start i) ws))) n
+    ∙ ap (said-by done) (sym (block-is ws k l))

@@ -3,14 +3,17 @@
 use Prim.Native.Nat.{ℕ, _+_, _-_, _*_}
 use mathlib.Core.Bool.{false, cond, _&&_}
 use mathlib.Core.List.{List, [], _∷_}
+use mathlib.Core.Option.{none}
 use lib.Dec.{leb, eqb}
 use lib.ListN.{length, drop}
 use Rattle.verdict.specs.declared.Verdict.{Verdict}
 use Rattle.section.specs.Walk.{word}
-use Rattle.verdict.specs.Verdict.{verdict}
+use Rattle.verdict.specs.Verdict.{verdict, done, then}
+use Rattle.verdict.specs.Said.{Said, said-by}
 use Rattle.section.specs.Section.{Section, meaning, end, front, whole, records-earn, records-in}
 use Rattle.table.specs.declared.sizes.Sizes.{Sizes}
 use Rattle.table.specs.Table.{sizes-faults}
+use Rattle.record.specs.declared.Block.{Block}
 use Rattle.record.specs.Record.{record-words, block-in}
 use Rattle.rules.specs.Fault.{faults}
 use Rattle.network.specs.declared.{checker.Opened.Opened, reading.Read.Read, reading.Read.the-variants.Record, reading.Read.the-variants.Refused}
@@ -72,16 +75,21 @@ leading ws = opened-with ws (front-checked ws)
 abbrev pub opened : List ℕ → Opened
 opened ws = opened-with ws (checked ws)
 
--- ---- the reader: the opening's refusal, or 12 when k isn't 1 to the count or the words are fewer than the opening's network has, or
--- the record whose words stand after the areas, the count and the earlier blocks
+-- ---- the reader: its answer says a record, or a refusal and no record
+abbrev pub read-said : Read → Said Block
+read-said (Record b) = said-by done b
+read-said (Refused v) = record { verdict = v; value = none }
+
+-- the opening's refusal, or 12 when k isn't 1 to the count or the words, so many, are fewer than the opening's network has
+unfoldable pub read-verdict : Opened → ℕ → ℕ → Verdict
+read-verdict o k size = then (o .verdict) (cond (leb 1 k && leb k (o .count) && leb (o .next) size) done (verdict 12 0))
+
+-- the record's words stand after the areas, the count and the earlier blocks
 abbrev pub record-start : ℕ → ℕ
 record-start earlier = 6 + record-words * earlier
 
-unfoldable pub read-at : List ℕ → Opened → ℕ → Read
-read-at ws o k =
-    cond (eqb (o .verdict .number) 0)
-    (cond (leb 1 k && leb k (o .count) && leb (o .next) (length ws)) (Record (block-in (drop (record-start (k - 1)) ws))) (Refused (verdict 12 0)))
-    (Refused (o .verdict))
+unfoldable pub read-at : List ℕ → Opened → ℕ → Said Block
+read-at ws o k = said-by (read-verdict o k (length ws)) (block-in (drop (record-start (k - 1)) ws))
 
-abbrev pub read : List ℕ → ℕ → Read
+abbrev pub read : List ℕ → ℕ → Said Block
 read ws k = read-at ws (opened ws) k

@@ -12,13 +12,14 @@ use denote.Triple.Entry.{Args, Res}
 use denote.Triple.Clauses.{Ended, Clauses, AtExit}
 use denote.Triple.Walked.{needs}
 use Rattle.verdict.specs.Promise.{Decides}
+use Rattle.network.proofs.ReadAt.{said-once}
 use Rattle.reader.proofs.record_of.Reads as record-of-reads
 use Rattle.reader.proofs.Reader.open as opener
 use Rattle.reader.proofs.Reader.opened as opened
 use Rattle.reader.proofs.Reader.record as block
 
 pub record-of : Decides record-of-reads.Post
-record-of κs a x y s t p q = p ∙ sym q
+record-of κs a x y s t p q = said-once x y (p ∙ sym q)
 
 -- ---- a reader holds a reference, and of a contract over one the check reads no such `Post` off: what the contract says of two
 -- results, as it stands, gives that they are equal, the words that a reader holds included
@@ -38,4 +39,4 @@ module _ {M : Type 1} (𝓤 : URA M) (H : Heap 𝓤) (A : Atoms 𝓤) (mem : Mem
   reader-opened κs a g x y s t = given (λ p q. p ∙ sym q)
 
   pub reader-record : Equates block.ended (block.clauses 𝓤 H A mem run)
-  reader-record κs a g x y s t = given (λ p q. p ∙ sym q)
+  reader-record κs a g x y s t = given (λ p q. said-once x y (p ∙ sym q))

@@ -4,7 +4,7 @@ use mathlib.Core.Path.{_≡_}
 use mathlib.Core.List.{List}
 use denote.Ref.{RefT, now}
 use Rattle.network.specs.declared.reading.Read.the-variants.{Refused}
-use Rattle.network.specs.Check.{opened, checked, read-at, read}
+use Rattle.network.specs.Check.{opened, checked, read-said, read-at, read}
 use Rattle.reader.specs.declared.Reader.{Reader}
 
 -- a reader opened on lent words: it holds the caller's own words, and what opening them finds
@@ -20,4 +20,4 @@ GivesRecord = (lent : RefT (List ℕ)) (reader : Reader) (k : ℕ) → OpenedOn 
 abbrev pub GivesRefusal : Type 0
 GivesRefusal =
     (lent : RefT (List ℕ)) (reader : Reader) (k : ℕ) → OpenedOn lent reader → (checked (now lent) .number ≡ 0 → ⊥)
-    → read-at (now (reader .words)) (reader .found) k ≡ Refused (checked (now lent))
+    → read-at (now (reader .words)) (reader .found) k ≡ read-said (Refused (checked (now lent)))

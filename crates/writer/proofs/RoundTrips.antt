@@ -7,6 +7,7 @@ use lib.ListN.{length, take, drop, length-drop}
 use lib.Seq.{take-at, drop-append-seam}
 use Rattle.verdict.specs.declared.Verdict.{Verdict}
 use Rattle.verdict.specs.Verdict.{done}
+use Rattle.verdict.specs.Said.{said-by}
 use Rattle.section.proofs.Limits.{in-count}
 use Rattle.section.proofs.Walk.{clean-done}
 use Rattle.table.specs.declared.sizes.Sizes.{Sizes}
@@ -17,7 +18,6 @@ use Rattle.record.proofs.Words.{spelled-long, spelled-back, fifteen}
 use Rattle.rules.specs.Fault.{faults, judged}
 use Rattle.rules.proofs.Faults.{faults-long}
 use Rattle.rules.proofs.Good.{record-clean}
-use Rattle.network.specs.declared.reading.Read.the-variants.{Record}
 use Rattle.network.specs.Network.{block-of}
 use Rattle.network.specs.Check.{most-blocks, network-in, opened, record-start}
 use Rattle.network.specs.Sound.{Sound}
@@ -57,7 +57,7 @@ read-is-written ws k buffer e l u long =
     write-done z k b buffer (sizes-allowed z (s .network .areas))
     (in-count most-blocks k l (omega (arith, s .network .few))) (ap (λ (v : Verdict). v .number) judge) long in
     record {
-      is-read = read-record ws (opened ws) k e l u (omega (arith, whole-front ws e .1)) ∙ ap Record (sym at);
+      is-read = read-record ws (opened ws) k e l u (omega (arith, whole-front ws e .1)) ∙ ap (said-by done) (sym at);
       is-written = ok;
       words =
           buffer-written z k b buffer (ap (λ (v : Verdict). v .number) ok)

@@ -4,10 +4,10 @@ use mathlib.Core.Path.{_≡_}
 use mathlib.Core.List.{List, _++_}
 use lib.ListN.{length, take, drop}
 use Rattle.verdict.specs.Verdict.{done}
+use Rattle.verdict.specs.Said.{said-by}
 use Rattle.table.specs.declared.sizes.Sizes.{Sizes}
 use Rattle.record.specs.declared.Block.{Block}
 use Rattle.record.specs.Record.{record-words, block-in}
-use Rattle.network.specs.declared.reading.Read.the-variants.{Record}
 use Rattle.network.specs.Network.{block-count, block-of}
 use Rattle.network.specs.Check.{network-in, checked, record-start, read}
 use Rattle.writer.specs.Writer.{write-verdict, write-buffer}
@@ -20,7 +20,7 @@ WrittenIsRead =
 
 -- Accepted words, read as the record of block k and written back, are accepted by the writer and are the same words.
 pub record SameWords (ws : List ℕ) (k : ℕ) (buffer : List ℕ) : Type 0 where
-  pub is-read : read ws k ≡ Record (block-of (network-in ws) (k - 1))
+  pub is-read : read ws k ≡ said-by done (block-of (network-in ws) (k - 1))
   pub is-written : write-verdict (network-in ws .sizes) k (block-of (network-in ws) (k - 1)) buffer ≡ done
   pub words : write-buffer (network-in ws .sizes) k (block-of (network-in ws) (k - 1)) buffer ≡ take record-words (drop (record-start (k - 1)) ws)
 

@@ -4,7 +4,8 @@ use native.Mathlib.Omega.{arith}
 use mathlib.Core.Path.{sym, ap, _∙_}
 use denote.Ref.{now}
 use Rattle.section.proofs.Limits.{below-count, above-count}
-use Rattle.network.specs.declared.reading.Read.the-variants.{Record}
+use Rattle.verdict.specs.Verdict.{done}
+use Rattle.verdict.specs.Said.{said-by}
 use Rattle.network.proofs.ReadAt.{read-refused, read-none, read-short, read-record}
 use Rattle.network.proofs.reading.record_at.Statement.{statement}
 use Rattle.network.proofs.reading.record_at.Tie as tie
@@ -41,7 +42,7 @@ block-at-requires c κs = search needs
 returns-5 : tie.Need-returns-5
 returns-5 c =
     let x = c .before .before .before .before .before .before .before .before .args in
-    ap Record (c .block-at .ensures)
+    ap (said-by done) (c .block-at .ensures)
     ∙ sym (read-record (now (x .words)) (x .o) (x .k) (c .before .before .before .before .if1 .left) (c .before .before .before .if2 .left) (c .before .before .if3 .left) (c .before .if4 .left))
 
 pub record-at-spec : {M : Type 1} → statement M
