@@ -2,6 +2,7 @@
 use mathlib.Core.Path.{_≡_, refl}
 use mathlib.Core.List.{List, [], _∷_}
 use Prim.Native.Nat.{ℕ}
+use lib.ListN.{length}
 use Rattle.verdict.specs.declared.Verdict.{Verdict}
 use Rattle.section.specs.Walk.{seek}
 use Rattle.verdict.specs.Verdict.{verdict, done}
@@ -29,7 +30,7 @@ abbrev blank : List ℕ
 blank = 0 ∷ 0 ∷ 0 ∷ 0 ∷ 0 ∷ 0 ∷ 0 ∷ 0 ∷ 0 ∷ 0 ∷ 0 ∷ 0 ∷ 0 ∷ 0 ∷ 0 ∷ []
 
 abbrev written : Sizes → ℕ → List ℕ → List ℕ → Verdict × List ℕ
-written z k words buffer = (write-verdict z k (block-in words) buffer, write-buffer z k (block-in words) buffer)
+written z k words buffer = (write-verdict z k (block-in words) (length buffer), write-buffer z k (block-in words) buffer)
 
 pub writings :
     _≡_ {A = List (Verdict × List ℕ)}

@@ -53,7 +53,7 @@ read-is-written ws k buffer e l u long =
     let at : b ≡ block-in (drop (record-start j) ws) = block-is ws j (omega arith) in
     let judge : judged z j b 0 record-words ≡ done =
     clean-done record-words (faults z j b) 0 (record-clean z j b (s .network .blocks j (omega arith))) (omega (arith, faults-long z j b)) in
-    let ok : write-verdict z k b buffer ≡ done =
+    let ok : write-verdict z k b (length buffer) ≡ done =
     write-done z k b buffer (sizes-allowed z (s .network .areas))
     (in-count most-blocks k l (omega (arith, s .network .few))) (ap (λ (v : Verdict). v .number) judge) long in
     record {

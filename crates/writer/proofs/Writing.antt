@@ -22,40 +22,40 @@ module _ (z : Sizes) (k : ℕ) (b : Block) (l : List ℕ) where
   rest-after-k = then (judged z (k - 1) b 0 record-words) (cond (eqb (length l) record-words) done (verdict 12 0))
 
   by-flags : (fits counted : Bool) → allowed z ≡ fits → (leb 1 k && leb k most-blocks) ≡ counted
-      → write-verdict z k b l ≡ then (cond fits done (verdict 3 0)) (then (cond counted done (verdict 12 0)) rest-after-k)
+      → write-verdict z k b (length l) ≡ then (cond fits done (verdict 3 0)) (then (cond counted done (verdict 12 0)) rest-after-k)
   unfolding write-verdict rest-after-k
   by-flags fits counted p q =
       ap₂ (λ (x y : Bool). then (cond x done (verdict 3 0)) (then (cond y done (verdict 12 0)) (then (judged z (k - 1) b 0 record-words) (cond (eqb (length l) record-words) done (verdict 12 0))))) p q
 
-  pub write-sizes : allowed z ≡ false → write-verdict z k b l ≡ verdict 3 0
+  pub write-sizes : allowed z ≡ false → write-verdict z k b (length l) ≡ verdict 3 0
   write-sizes e = by-flags false _ e refl
 
-  pub write-count : allowed z ≡ true → (leb 1 k && leb k most-blocks) ≡ false → write-verdict z k b l ≡ verdict 12 0
+  pub write-count : allowed z ≡ true → (leb 1 k && leb k most-blocks) ≡ false → write-verdict z k b (length l) ≡ verdict 12 0
   write-count e f = by-flags true false e f
 
-  write-rest : allowed z ≡ true → (leb 1 k && leb k most-blocks) ≡ true → write-verdict z k b l ≡ then (judged z (k - 1) b 0 record-words) (cond (eqb (length l) record-words) done (verdict 12 0))
+  write-rest : allowed z ≡ true → (leb 1 k && leb k most-blocks) ≡ true → write-verdict z k b (length l) ≡ then (judged z (k - 1) b 0 record-words) (cond (eqb (length l) record-words) done (verdict 12 0))
   unfolding rest-after-k
   write-rest e f = by-flags true true e f
 
-  pub write-words : allowed z ≡ true → (leb 1 k && leb k most-blocks) ≡ true → (judged z (k - 1) b 0 record-words .number ≡ 0 → ⊥) → write-verdict z k b l ≡ judged z (k - 1) b 0 record-words
+  pub write-words : allowed z ≡ true → (leb 1 k && leb k most-blocks) ≡ true → (judged z (k - 1) b 0 record-words .number ≡ 0 → ⊥) → write-verdict z k b (length l) ≡ judged z (k - 1) b 0 record-words
   write-words e f h = write-rest e f ∙ then-first (judged z (k - 1) b 0 record-words) (cond (eqb (length l) record-words) done (verdict 12 0)) h
 
-  pub write-short : allowed z ≡ true → (leb 1 k && leb k most-blocks) ≡ true → judged z (k - 1) b 0 record-words .number ≡ 0 → (length l ≡ record-words → ⊥) → write-verdict z k b l ≡ verdict 12 0
+  pub write-short : allowed z ≡ true → (leb 1 k && leb k most-blocks) ≡ true → judged z (k - 1) b 0 record-words .number ≡ 0 → (length l ≡ record-words → ⊥) → write-verdict z k b (length l) ≡ verdict 12 0
   write-short e f h n =
       write-rest e f
       ∙ then-next (judged z (k - 1) b 0 record-words) (cond (eqb (length l) record-words) done (verdict 12 0)) h
       ∙ ap (λ (x : Bool). cond x done (verdict 12 0)) (ne-eqb (length l) record-words n)
 
-  pub write-done : allowed z ≡ true → (leb 1 k && leb k most-blocks) ≡ true → judged z (k - 1) b 0 record-words .number ≡ 0 → length l ≡ record-words → write-verdict z k b l ≡ done
+  pub write-done : allowed z ≡ true → (leb 1 k && leb k most-blocks) ≡ true → judged z (k - 1) b 0 record-words .number ≡ 0 → length l ≡ record-words → write-verdict z k b (length l) ≡ done
   write-done e f h n =
       write-rest e f
       ∙ then-next (judged z (k - 1) b 0 record-words) (cond (eqb (length l) record-words) done (verdict 12 0)) h
       ∙ ap (λ (x : Bool). cond x done (verdict 12 0)) (eq-eqb (length l) record-words n)
 
-  pub buffer-kept : (write-verdict z k b l .number ≡ 0 → ⊥) → write-buffer z k b l ≡ l
+  pub buffer-kept : (write-verdict z k b (length l) .number ≡ 0 → ⊥) → write-buffer z k b l ≡ l
   unfolding write-buffer
-  buffer-kept h = ap (λ (x : Bool). cond x (spelled b) l) (ne-eqb (write-verdict z k b l .number) 0 h)
+  buffer-kept h = ap (λ (x : Bool). cond x (spelled b) l) (ne-eqb (write-verdict z k b (length l) .number) 0 h)
 
-  pub buffer-written : write-verdict z k b l .number ≡ 0 → write-buffer z k b l ≡ spelled b
+  pub buffer-written : write-verdict z k b (length l) .number ≡ 0 → write-buffer z k b l ≡ spelled b
   unfolding write-buffer
-  buffer-written e = ap (λ (x : Bool). cond x (spelled b) l) (eq-eqb (write-verdict z k b l .number) 0 e)
+  buffer-written e = ap (λ (x : Bool). cond x (spelled b) l) (eq-eqb (write-verdict z k b (length l) .number) 0 e)

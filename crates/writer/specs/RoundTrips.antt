@@ -15,13 +15,13 @@ use Rattle.writer.specs.Writer.{write-verdict, write-buffer}
 -- A record that is written, whatever stands before and after its words, is read back as the same record.
 abbrev pub WrittenIsRead : Type 0
 WrittenIsRead =
-    (z : Sizes) (k : ℕ) (b : Block) (buffer before after : List ℕ) → write-verdict z k b buffer ≡ done
+    (z : Sizes) (k : ℕ) (b : Block) (buffer before after : List ℕ) → write-verdict z k b (length buffer) ≡ done
     → block-in (drop (length before) (before ++ write-buffer z k b buffer ++ after)) ≡ b
 
 -- Accepted words, read as the record of block k and written back, are accepted by the writer and are the same words.
 pub record SameWords (ws : List ℕ) (k : ℕ) (buffer : List ℕ) : Type 0 where
   pub is-read : read ws k ≡ said-by done (block-of (network-in ws) (k - 1))
-  pub is-written : write-verdict (network-in ws .sizes) k (block-of (network-in ws) (k - 1)) buffer ≡ done
+  pub is-written : write-verdict (network-in ws .sizes) k (block-of (network-in ws) (k - 1)) (length buffer) ≡ done
   pub words : write-buffer (network-in ws .sizes) k (block-of (network-in ws) (k - 1)) buffer ≡ take record-words (drop (record-start (k - 1)) ws)
 
 abbrev pub ReadIsWritten : Type 0

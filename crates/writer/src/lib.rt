@@ -39,7 +39,7 @@ fn spell(buffer: &mut [u16], block: Block)
 // Puts block k's record into 15 lent words.
 pub fn write_record(sizes: Sizes, k: usize, block: Block, buffer: &mut [u16]) -> Verdict
     ensures { λ r. ⌜
-        Leaves (write-verdict sizes k block (now (buffer .entry))) (write-buffer sizes k block (now (buffer .entry)))
+        Leaves (write-verdict sizes k block (length (now (buffer .entry)))) (write-buffer sizes k block (now (buffer .entry)))
         r (now (buffer .exit)) ⌝ }
 {
     if !allowed(sizes) {

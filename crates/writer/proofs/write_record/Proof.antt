@@ -6,6 +6,7 @@ use Prim.Native.Nat.{ℕ}
 use mathlib.Core.List.{List}
 use denote.Ref.{now}
 use borrow.Author.Tests.{not-true, not-false}
+use lib.ListN.{length}
 use Rattle.verdict.specs.declared.Verdict.{Verdict}
 use Rattle.verdict.specs.Promise.{Leaves}
 use Rattle.section.proofs.Limits.{in-count, below-count, above-count}
@@ -18,8 +19,8 @@ use Rattle.writer.proofs.write_record.Statement.{statement}
 use Rattle.writer.proofs.write_record.Tie as tie
 
 -- a refusal leaves the buffer alone
-refused : (z : Sizes) (k : ℕ) (b : Block) (l : List ℕ) {v : Verdict} → write-verdict z k b l ≡ v → (v .number ≡ 0 → ⊥)
-    → Leaves (write-verdict z k b l) (write-buffer z k b l) v l
+refused : (z : Sizes) (k : ℕ) (b : Block) (l : List ℕ) {v : Verdict} → write-verdict z k b (length l) ≡ v → (v .number ≡ 0 → ⊥)
+    → Leaves (write-verdict z k b (length l)) (write-buffer z k b l) v l
 refused z k b l e h = record {
   answers = sym e;
   leaves = sym (buffer-kept z k b l (λ y. h (ap (λ (x : Verdict). x .number) (sym e) ∙ y)));
