@@ -1,30 +1,36 @@
 -- The round trips of a record between reader and writer (demand 2). Assumes nothing.
 use Prim.Native.Nat.{ℕ, _-_, _≤_}
 use mathlib.Core.Path.{_≡_}
-use mathlib.Core.List.{List, _++_}
-use lib.ListN.{length, take, drop}
+use mathlib.Core.List.{List}
+use lib.ListN.{length}
 use Rattle.verdict.specs.Verdict.{done}
 use Rattle.verdict.specs.Said.{said-by}
-use Rattle.table.specs.declared.sizes.Sizes.{Sizes}
+use Rattle.runs.specs.Run.{run, placed}
 use Rattle.record.specs.declared.Block.{Block}
-use Rattle.record.specs.Record.{record-words, block-in}
-use Rattle.network.specs.Network.{block-count, block-of}
+use Rattle.record.specs.Record.{record-words}
+use Rattle.network.specs.Network.{block-count}
 use Rattle.network.specs.Check.{network-in, checked, record-start, read}
 use Rattle.writer.specs.Writer.{write-verdict, write-buffer}
 
--- A record that is written, whatever stands before and after its words, is read back as the same record.
+-- words that the checker accepts, and of which the reader gives b as the record of block k
+pub record Reads (ws : List ℕ) (k : ℕ) (b : Block) : Type 0 where
+  pub accepted : checked ws ≡ done
+  pub is-read : read ws k ≡ said-by done b
+
+-- A record that the writer, given a network's sizes and k, puts at block k of the network's words leaves words that are accepted, and
+-- is read back from them.
 abbrev pub WrittenIsRead : Type 0
 WrittenIsRead =
-    (z : Sizes) (k : ℕ) (b : Block) (buffer before after : List ℕ) → write-verdict z k b (length buffer) ≡ done
-    → block-in (drop (length before) (before ++ write-buffer z k b buffer ++ after)) ≡ b
+    (ws : List ℕ) (k : ℕ) (b : Block) (buffer : List ℕ) → checked ws .number ≡ 0 → 1 ≤ k → k ≤ block-count (network-in ws)
+    → write-verdict (network-in ws .sizes) k b (length buffer) .number ≡ 0
+    → Reads (placed ws (record-start (k - 1)) (write-buffer (network-in ws .sizes) k b buffer)) k b
 
--- Accepted words, read as the record of block k and written back, are accepted by the writer and are the same words.
-pub record SameWords (ws : List ℕ) (k : ℕ) (buffer : List ℕ) : Type 0 where
-  pub is-read : read ws k ≡ said-by done (block-of (network-in ws) (k - 1))
-  pub is-written : write-verdict (network-in ws .sizes) k (block-of (network-in ws) (k - 1)) (length buffer) ≡ done
-  pub words : write-buffer (network-in ws .sizes) k (block-of (network-in ws) (k - 1)) buffer ≡ take record-words (drop (record-start (k - 1)) ws)
+-- the writer is not refused, and writes the words that stand at block k
+pub record SameWords (ws : List ℕ) (k : ℕ) (b : Block) (buffer : List ℕ) : Type 0 where
+  pub is-written : write-verdict (network-in ws .sizes) k b (length buffer) ≡ done
+  pub words : write-buffer (network-in ws .sizes) k b buffer ≡ run ws (record-start (k - 1)) record-words
 
+-- A record that the reader gives as the record of block k is written back as the words that it was read from.
 abbrev pub ReadIsWritten : Type 0
 ReadIsWritten =
-    (ws : List ℕ) (k : ℕ) (buffer : List ℕ) → checked ws .number ≡ 0 → 1 ≤ k → k ≤ block-count (network-in ws) → length buffer ≡ record-words
-    → SameWords ws k buffer
+    (ws : List ℕ) (k : ℕ) (b : Block) (buffer : List ℕ) → read ws k ≡ said-by done b → length buffer ≡ record-words → SameWords ws k b buffer
