@@ -3,3 +3,5 @@ pub mod Accepted
 pub mod Determined
 pub mod Examples
 pub mod Files
+pub mod Kept
+pub mod Starts

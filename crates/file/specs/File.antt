@@ -71,15 +71,18 @@ file-in ws = meaning file-sections no-file ws
 unfoldable pub file-checked : List ℕ → Bool → Verdict
 file-checked ws odd = whole file-sections no-file ws odd
 
--- the verdict with what the words spell
-abbrev pub opened-file : List ℕ → Bool → OpenedFile
-opened-file ws odd = record {
-  verdict = file-checked ws odd;
+-- a verdict with what the words spell
+abbrev pub opened-file-with : List ℕ → Verdict → OpenedFile
+opened-file-with ws v = record {
+  verdict = v;
   network = leading ws;
   image = network-end ws + 1;
   words = table-words (file-in ws);
   scans = file-in ws .run;
 }
+
+abbrev pub opened-file : List ℕ → Bool → OpenedFile
+opened-file ws odd = opened-file-with ws (file-checked ws odd)
 
 -- ---- what the code may rely on, whatever the words are: a network ends at 6 + 15 * 65535 at the latest, and four areas have
 -- 4 * 65535 words at most
