@@ -11,9 +11,10 @@ use crate::put::put_number;
 ghost use Prim.Native.Nat.{_+_, _≤_, _<_};
 ghost use mathlib.Core.Path.{_≡_};
 ghost use lib.ListN.{length};
+ghost use Rattle.verdict.specs.Verdict.{verdict};
 ghost use Rattle.verdict.specs.Promise.{Leaves};
 ghost use Rattle.blocks.specs.Packed.{unpacked};
-ghost use Rattle.lines.specs.Text.{output-fields, pointer-field, line, first-line, last-line, line-fits, place-after, laid};
+ghost use Rattle.lines.specs.Text.{output-fields, pointer-field, line, first-line, last-line, refusal-line, line-fits, place-after, laid};
 ghost use Rattle.lines.specs.Inner.{Put, digit-of};
 
 // The bytes that a line may take.
@@ -128,4 +129,21 @@ pub fn put_end(text: &mut [u8], at: usize, next: u16, scans: u16) -> usize
     }
     let after = put_bytes(text, at, b"end ");
     put_field(text, after, scans, 10)
+}
+
+// The one line of a refusal, its number and its place, at the front of the buffer. The place of a word of a file that is read is a word
+// itself: no file is refused further on.
+pub fn put_refusal(text: &mut [u8], number: u16, place: u16) -> usize
+    ensures { λ r. ⌜
+        Leaves
+        (place-after 0 (refusal-line (verdict number place)) (now (text .entry)))
+        (laid 0 (refusal-line (verdict number place)) (now (text .entry)))
+        r (now (text .exit)) ⌝ }
+{
+    if !line_fits(text.len(), 0) {
+        return 0;
+    }
+    let next = put_bytes(text, 0, b"refused ");
+    let next = put_field(text, next, number, 32);
+    put_field(text, next, place, 10)
 }

@@ -1,4 +1,5 @@
 -- The laws of the lines of scans and of a call; the theorems; runs computed.
+pub mod Begun
 pub mod Determined
 pub mod Kept
 pub mod Outcomes

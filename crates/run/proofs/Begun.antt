@@ -1,0 +1,91 @@
+-- The calls that the program makes print the text of the bytes: the words are those that the bytes make, the start refuses as the check
+-- does, and the run begins on the image. Assumes nothing.
+use mathlib.Core.Path.{_≡_, refl, sym, ap, ap₂, _∙_, subst}
+use mathlib.Core.Bool.{Bool, true, false, cond}
+use mathlib.Core.List.{List, [], _++_}
+use Prim.Native.Nat.{ℕ, _+_, _≤_}
+use native.Mathlib.Omega.{arith}
+use borrow.Author.Tests.{le-leb, eq-eqb, ne-eqb, eqb-true, eqb-false}
+use lib.Dec.{leb, eqb}
+use lib.ListN.{length, take, drop}
+use lib.Seq.{take-at, take-append-seam}
+use Rattle.verdict.specs.declared.Verdict.{Verdict}
+use Rattle.verdict.specs.Promise.{Leaves}
+use Rattle.verdict.specs.Verdict.{verdict, done, then}
+use Rattle.words.specs.declared.Converted.{Converted}
+use Rattle.words.specs.Words.{words-count, words-in, odd-byte, converted, to-words, filled}
+use Rattle.words.proofs.Filling.{words-length}
+use Rattle.file.specs.declared.checker.OpenedFile.{OpenedFile}
+use Rattle.file.specs.File.{table-words, file-in, file-checked, opened-file-with}
+use Rattle.file.specs.Sound.{SoundFile}
+use Rattle.file.specs.Start.{start-verdict, started, start-table}
+use Rattle.file.proofs.Accepted.{accepts-files, accepted-done}
+use Rattle.file.proofs.Starts.{image-first}
+use Rattle.lines.specs.Text.{longest-line, refusal-line, place-after, laid}
+use Rattle.lines.proofs.Laying.{laid-put}
+use Rattle.run.specs.Bench.{file-text, words-text, bench-text}
+use Rattle.run.specs.Calls.{Pages, most-table, Printed, Begins, CallsPrint}
+use Rattle.run.specs.Calls.Printed.{refused, ran}
+use Rattle.run.proofs.Paging.{pages-are-printed}
+
+-- ---- the words that the bytes make
+module _ (bytes words : List ℕ) (enough : words-count bytes ≤ length words) {c : Converted} {left : List ℕ} (h : Leaves (to-words bytes words) (filled bytes words) c left) where
+  fits : leb (words-count bytes) (length words) ≡ true
+  fits = le-leb (words-count bytes) (length words) enough
+
+  answer-is : c ≡ converted done (words-count bytes) (odd-byte bytes)
+  unfolding to-words
+  answer-is = h .answers ∙ ap (λ (a : Bool). cond a (converted done (words-count bytes) (odd-byte bytes)) (converted (verdict 12 0) 0 false)) fits
+
+  words-are : take (c .count) left ≡ words-in bytes
+  unfolding filled
+  words-are =
+      ap₂ take (ap (λ (x : Converted). x .count) answer-is) (h .leaves ∙ ap (λ (a : Bool). cond a (words-in bytes ++ drop (words-count bytes) words) words) fits)
+      ∙ take-at (words-in bytes) (drop (words-count bytes) words) (words-count bytes) (words-length bytes (words-count bytes) 0)
+
+  odd-is : c .odd ≡ odd-byte bytes
+  odd-is = ap (λ (x : Converted). x .odd) answer-is
+
+-- ---- a file that is started on a table with room for any
+module _ (ws : List ℕ) (odd : Bool) (table : List ℕ) (room : most-table ≤ length table) where
+  -- it is refused as the check refuses it
+  as-checked : start-verdict ws odd (length table) ≡ file-checked ws odd
+  unfolding start-verdict
+  as-checked = go (eqb (file-checked ws odd .number) 0) refl
+    where
+      go : (a : Bool) → eqb (file-checked ws odd .number) 0 ≡ a → cond a (cond (leb (table-words (file-in ws)) (length table)) done (verdict 12 0)) (file-checked ws odd) ≡ file-checked ws odd
+      go true e =
+          let fine : file-checked ws odd .number ≡ 0 = eqb-true (file-checked ws odd .number) 0 e in
+          let z = accepts-files ws odd .0 fine .file .network .areas in
+          ap (λ (a : Bool). cond a done (verdict 12 0)) (le-leb (table-words (file-in ws)) (length table) (omega (arith, z .coils, z .discretes, z .inputs, z .holding))) ∙ sym (accepted-done ws odd fine)
+      go false e = refl
+
+  module _ {o : OpenedFile} {begun : List ℕ} (h : Leaves (started ws odd (length table)) (start-table ws odd table) o begun) where
+    verdict-is : o .verdict ≡ file-checked ws odd
+    verdict-is = ap (λ (x : OpenedFile). x .verdict) (h .answers) ∙ as-checked
+
+    prints : {out : List ℕ} → Printed ws o begun out → out ≡ words-text ws odd
+    unfolding words-text
+    prints (refused bad text l {n} {after} s) =
+        let line : List ℕ = refusal-line (o .verdict) in
+        let e = le-leb (0 + longest-line) (length text) (omega (arith, l)) in
+        let z : 0 + length line ≡ length line = omega arith in
+        ap₂ take
+        (s .answers ∙ ap (λ (a : Bool). cond a (0 + length line) 0) e ∙ z)
+        (s .leaves ∙ ap (λ (a : Bool). cond a (line ++ drop (0 + length line) text) text) e)
+        ∙ take-append-seam line (drop (0 + length line) text)
+        ∙ ap refusal-line verdict-is
+        ∙ sym (ap (λ (a : Bool). cond a (file-text (file-in ws)) (refusal-line (file-checked ws odd)))
+        (ne-eqb (file-checked ws odd .number) 0 (λ q. bad (ap (λ (v : Verdict). v .number) verdict-is ∙ q))))
+    prints (ran fine {out} p) =
+        let zero : file-checked ws odd .number ≡ 0 = sym (ap (λ (v : Verdict). v .number) verdict-is) ∙ fine in
+        let even : odd ≡ false = accepts-files ws odd .0 zero .even in
+        let image : take (o .words) begun ≡ file-in ws .image =
+        ap₂ take (ap (λ (x : OpenedFile). x .words) (h .answers)) (h .leaves) ∙ image-first ws odd table (ap (λ (v : Verdict). v .number) as-checked ∙ zero) in
+        pages-are-printed ws (ap (λ (b : Bool). file-checked ws b .number) (sym even) ∙ zero) out (subst (λ (t : List ℕ). Pages ws t 1 out) image p)
+        ∙ sym (ap (λ (a : Bool). cond a (file-text (file-in ws)) (refusal-line (file-checked ws odd))) (eq-eqb (file-checked ws odd .number) 0 zero))
+
+pub calls-print : CallsPrint
+calls-print bytes words table c left o begun b out p =
+    prints (take (c .count) left) (c .odd) table (b .enough-table) (b .starts) p
+    ∙ ap₂ words-text (words-are bytes words (b .enough-words) (b .converts)) (odd-is bytes words (b .enough-words) (b .converts))
