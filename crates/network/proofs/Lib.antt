@@ -1,7 +1,6 @@
 -- The laws of the definitions.
 pub mod Accepted
 pub mod Determined
-pub mod Examples
 pub mod Good
 pub mod Networks
 pub mod ReadAt

@@ -1,4 +1,3 @@
--- The laws of the pointer's steps, for the proofs here and in the crates above; the examples.
+-- The laws of the pointer's steps, for the proofs here and in the crates above.
 pub mod Determined
-pub mod Examples
 pub mod Pointers

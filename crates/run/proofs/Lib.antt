@@ -1,8 +1,7 @@
--- The laws of the lines of scans and of a call; the theorems; runs computed.
+-- The laws of the lines of scans, of a call, of the calls one after the other, and of the program's calls; the theorems.
 pub mod Begun
 pub mod Determined
 pub mod Kept
-pub mod Outcomes
 pub mod Paging
 pub mod Printing
 pub mod Running

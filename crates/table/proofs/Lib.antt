@@ -1,6 +1,5 @@
 -- The laws of the definitions.
 pub mod Determined
-pub mod Examples
 pub mod Good
 pub mod Parts
 pub mod References

@@ -1,5 +1,4 @@
--- The laws of the words that bytes make, for the proofs here; the theorems; the examples.
+-- The laws of the words that bytes make, for the proofs here; the theorems.
 pub mod Determined
-pub mod Examples
 pub mod Filling
 pub mod Kept

@@ -1,6 +1,5 @@
 -- The laws of the definitions.
 pub mod Determined
-pub mod Examples
 pub mod Kept
 pub mod RoundTrips
 pub mod Writing
