@@ -156,24 +156,57 @@ module _ (n : ℕ) (v w : View) (same : SameView n v w) (on : Power) where
   by-view BROT held l = rotate-same l
 
 -- ---- two tables that agree on what a block reads give it the same view
+
+-- a pointer, or 0 where there is none
+abbrev or-0 : Option ℕ → ℕ
+or-0 none = 0
+or-0 (some x) = x
+
 module _ (net : Network) (b : Block) (t u : List ℕ) where
   run-same : (s : ℕ) → SameFrom (some s) (b .n) t u → (p : ℕ) → 1 ≤ p → p ≤ 16 * b .n → bit (run t s (b .n)) p ≡ bit (run u s (b .n)) p
   run-same s h p l m = run-bits t s (b .n) p l m ∙ h (16 * s + p) (omega arith) (omega arith) ∙ sym (run-bits u s (b .n) p l m)
 
-  given : (x y : ℕ) → some x ≡ some y → x ≡ y
-  given x y e = cc
+  -- the bits that are seen are the source's and the destination's
+  sources : (kind : Kind) → SameFrom (source-at kind net b) (b .n) t u
+      → (p : ℕ) → 1 ≤ p → p ≤ 16 * b .n → bit (view kind net b t .source) p ≡ bit (view kind net b u .source) p
+  unfolding view
+  sources AND f = run-same _ f
+  sources OR f = run-same _ f
+  sources XOR f = run-same _ f
+  sources COMP f = run-same _ f
+  sources CMPR f = run-same _ f
+  sources MBIT f = λ p l m. refl
+  sources SENS f = run-same _ f
+  sources BROT f = run-same _ f
+
+  destinations : (kind : Kind) → SameFrom (destination-at kind net b) (b .n) t u
+      → (p : ℕ) → 1 ≤ p → p ≤ 16 * b .n → bit (view kind net b t .destination) p ≡ bit (view kind net b u .destination) p
+  unfolding view
+  destinations AND f = run-same _ f
+  destinations OR f = run-same _ f
+  destinations XOR f = run-same _ f
+  destinations COMP f = λ p l m. refl
+  destinations CMPR f = run-same _ f
+  destinations MBIT f = run-same _ f
+  destinations SENS f = λ p l m. refl
+  destinations BROT f = λ p l m. refl
+
+  -- the pointer that is seen is the block's
+  pointer-seen : (kind : Kind) (t : List ℕ) → view kind net b t .pointer ≡ or-0 (pointer-of kind net b t)
+  unfolding view
+  pointer-seen AND t = refl
+  pointer-seen OR t = refl
+  pointer-seen XOR t = refl
+  pointer-seen COMP t = refl
+  pointer-seen CMPR t = refl
+  pointer-seen MBIT t = refl
+  pointer-seen SENS t = refl
+  pointer-seen BROT t = refl
 
   sees-same : (kind : Kind) → SameFrom (source-at kind net b) (b .n) t u → SameFrom (destination-at kind net b) (b .n) t u
       → pointer-of kind net b t ≡ pointer-of kind net b u → SameView (b .n) (view kind net b t) (view kind net b u)
-  unfolding view
-  sees-same AND f g h = record { source = run-same _ f; destination = run-same _ g; pointer = refl }
-  sees-same OR f g h = record { source = run-same _ f; destination = run-same _ g; pointer = refl }
-  sees-same XOR f g h = record { source = run-same _ f; destination = run-same _ g; pointer = refl }
-  sees-same COMP f g h = record { source = run-same _ f; destination = λ p l m. refl; pointer = refl }
-  sees-same CMPR f g h = record { source = run-same _ f; destination = run-same _ g; pointer = given _ _ h }
-  sees-same MBIT f g h = record { source = λ p l m. refl; destination = run-same _ g; pointer = given _ _ h }
-  sees-same SENS f g h = record { source = run-same _ f; destination = λ p l m. refl; pointer = given _ _ h }
-  sees-same BROT f g h = record { source = run-same _ f; destination = λ p l m. refl; pointer = refl }
+  sees-same kind f g h =
+      record { source = sources kind f; destination = destinations kind g; pointer = pointer-seen kind t ∙ ap or-0 h ∙ sym (pointer-seen kind u) }
 
   pub effect-same : 1 ≤ b .n → Agree net b t u → (on : Power) → effect-on net b t on ≡ effect-on net b u on
   effect-same l a on =
