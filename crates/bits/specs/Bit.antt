@@ -5,9 +5,10 @@
 -- Assumes nothing.
 use Prim.Native.Nat.{ℕ, zero, suc, _+_, _-_, _*_, _/_, _%_, _^_}
 use mathlib.Core.Bool.{Bool, false, cond}
-use mathlib.Core.List.{List, [], _∷_}
+use mathlib.Core.List.{[], _∷_}
 use lib.Dec.{eqb}
 use lib.ListN.{getD}
+use Rattle.verdict.specs.Lists.{Matrix}
 
 -- whether the last binary digit of a number is 1
 abbrev pub odd : ℕ → Bool
@@ -15,7 +16,7 @@ odd x = eqb (x % 2) 1
 
 -- The bit at a position of a matrix. The position after the first i lies in word i / 16, counted from 0, and is worth
 -- 2 ^ (15 - i % 16) there. There is no position 0, and none past the last word: no bit is on there.
-unfoldable pub bit : List ℕ → ℕ → Bool
+unfoldable pub bit : Matrix → ℕ → Bool
 bit m zero = false
 bit m (suc i) = odd (getD m (i / 16) 0 / 2 ^ (15 - i % 16))
 
@@ -33,7 +34,7 @@ abbrev pub word-with : (ℕ → Bool) → ℕ
 word-with f = value 16 f
 
 -- the matrix of n words whose bits are f
-unfoldable pub matrix : ℕ → (ℕ → Bool) → List ℕ
+unfoldable pub matrix : ℕ → (ℕ → Bool) → Matrix
 matrix zero f = []
 matrix (suc n) f = word-with f ∷ matrix n (λ p. f (16 + p))
 

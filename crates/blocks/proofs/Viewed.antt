@@ -28,7 +28,7 @@ use Rattle.blocks.specs.View.{View, seen, view}
 use Rattle.blocks.specs.Effect.{Effect, effect, idle, into, increased, logic, found, compare, rotate, modify, sense, effect-of}
 use Rattle.blocks.specs.Effect.Change.{stays, becomes}
 use Rattle.blocks.specs.Work.{pointer-node, effect-on}
-use Rattle.blocks.specs.Truths.{SameFrom, source-at, destination-at, pointer-of, Agree}
+use Rattle.blocks.specs.Truths.{SameFrom, source-at, destination-at, pointer-seen, Agree}
 use Rattle.blocks.proofs.Puts.{run-bits}
 
 -- a matrix goes by its bits
@@ -192,21 +192,21 @@ module _ (net : Network) (b : Block) (t u : List ℕ) where
   destinations BROT f = λ p l m. refl
 
   -- the pointer that is seen is the block's
-  pointer-seen : (kind : Kind) (t : List ℕ) → view kind net b t .pointer ≡ or-0 (pointer-of kind net b t)
+  pointer-is : (kind : Kind) (t : List ℕ) → view kind net b t .pointer ≡ or-0 (pointer-seen kind net b t)
   unfolding view
-  pointer-seen AND t = refl
-  pointer-seen OR t = refl
-  pointer-seen XOR t = refl
-  pointer-seen COMP t = refl
-  pointer-seen CMPR t = refl
-  pointer-seen MBIT t = refl
-  pointer-seen SENS t = refl
-  pointer-seen BROT t = refl
+  pointer-is AND t = refl
+  pointer-is OR t = refl
+  pointer-is XOR t = refl
+  pointer-is COMP t = refl
+  pointer-is CMPR t = refl
+  pointer-is MBIT t = refl
+  pointer-is SENS t = refl
+  pointer-is BROT t = refl
 
   sees-same : (kind : Kind) → SameFrom (source-at kind net b) (b .n) t u → SameFrom (destination-at kind net b) (b .n) t u
-      → pointer-of kind net b t ≡ pointer-of kind net b u → SameView (b .n) (view kind net b t) (view kind net b u)
+      → pointer-seen kind net b t ≡ pointer-seen kind net b u → SameView (b .n) (view kind net b t) (view kind net b u)
   sees-same kind f g h =
-      record { source = sources kind f; destination = destinations kind g; pointer = pointer-seen kind t ∙ ap or-0 h ∙ sym (pointer-seen kind u) }
+      record { source = sources kind f; destination = destinations kind g; pointer = pointer-is kind t ∙ ap or-0 h ∙ sym (pointer-is kind u) }
 
   pub effect-same : 1 ≤ b .n → Agree net b t u → (on : Power) → effect-on net b t on ≡ effect-on net b u on
   effect-same l a on =

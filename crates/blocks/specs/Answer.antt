@@ -3,7 +3,7 @@
 use Prim.Native.Nat.{ℕ}
 use mathlib.Core.Path.{_≡_}
 use mathlib.Core.Bool.{false}
-use mathlib.Core.List.{List}
+use Rattle.verdict.specs.Lists.{Table}
 use Rattle.runs.specs.Run.{unless}
 use Rattle.verdict.specs.Verdict.{placeless}
 use Rattle.blocks.specs.declared.{Power.Power, Outputs.Outputs, answer.Worked.Worked}
@@ -21,6 +21,6 @@ abbrev pub refused : ℕ → Worked
 refused number = record { verdict = placeless number; outputs = no-outputs }
 
 -- unless a refusal is earned, an effect's outputs, and its destination, the n words from d on, and then its pointer, at p, written
-pub record Does (number : ℕ) (on : Power) (e : Effect) (d n p : ℕ) (t : List ℕ) (r : Worked) (table : List ℕ) : Type 0 where
+pub record Does (number : ℕ) (on : Power) (e : Effect) (d n p : ℕ) (t : Table) (r : Worked) (table : Table) : Type 0 where
   pub answers : r ≡ unless number (finished (outputs on e)) (refused number)
   pub leaves : table ≡ unless number (effect-put d n p e t) t

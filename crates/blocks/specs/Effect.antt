@@ -2,9 +2,9 @@
 -- the power on its inputs. Assumes nothing.
 use Prim.Native.Nat.{ℕ, _*_}
 use mathlib.Core.Bool.{Bool, true, false, not, cond, _&&_}
-use mathlib.Core.List.{List}
 use mathlib.Core.Option.{Option, none, some}
 use lib.Dec.{eqb, ltb}
+use Rattle.verdict.specs.Lists.{Matrix}
 use Rattle.bits.specs.Bit.{bit, matrix}
 use Rattle.matrix.specs.declared.{logic.Operation.Operation, logic.Operation.the-variants.And, logic.Operation.the-variants.Or, logic.Operation.the-variants.Xor, logic.Operation.the-variants.Comp}
 use Rattle.pointer.specs.declared.Pointer.{Pointer}
@@ -21,7 +21,7 @@ use Rattle.blocks.specs.View.{View}
 -- bit stays
 pub data Change : Type 0 where
   stays : Change
-  becomes : List ℕ → Change
+  becomes : Matrix → Change
   puts : ℕ → Bool → Change
 
 -- what happens to the destination; what the pointer becomes, none where it stays; the middle and the bottom output

@@ -4,10 +4,10 @@ use Prim.Native.Nat.{ℕ, _+_, _-_, _*_, _≤_, _<_}
 use mathlib.Core.Path.{_≡_}
 use mathlib.Core.Logic.{_↔_, _⊎_}
 use mathlib.Core.Bool.{Bool, true, false, cond, _&&_}
-use mathlib.Core.List.{List}
 use mathlib.Core.Option.{Option, none, some}
 use lib.Dec.{eqb, leb, ltb}
 use lib.ListN.{length}
+use Rattle.verdict.specs.Lists.{Table, Matrix}
 use Rattle.bits.specs.Bit.{bit}
 use Rattle.search.specs.Search.{NoneLater}
 use Rattle.pointer.specs.Pointer.{in-range}
@@ -26,7 +26,7 @@ use Rattle.blocks.specs.Work.{pointer-node, one-word, effect-on, block-o
 -- ---- the bits that a block writes, by their positions in the whole table
 
 -- what a matrix from an index on puts at a position, if it is written and the position is one of its own
-abbrev pub matrix-bit : ℕ → Option (List ℕ) → ℕ → Option Bool
+abbrev pub matrix-bit : ℕ → Option Matrix → ℕ → Option Bool
 matrix-bit s none p = none
 matrix-bit s (some m) p = cond (ltb (16 * s) p && leb p (16 * (s + length m))) (some (bit m (p - 16 * s))) none
 
@@ -62,7 +62,7 @@ or-stays (some x) there = x
 -- ---- the truths
 
 -- a block that the checker takes, and a table of exactly its areas
-pub record Runs (net : Network) (earlier : ℕ) (b : Block) (t : List ℕ) : Type 0 where
+pub record Runs (net : Network) (earlier : ℕ) (b : Block) (t : Table) : Type 0 where
   pub good : GoodBlock (net .sizes) earlier b
   pub exact : length t ≡ total (net .sizes)
 
@@ -75,18 +75,18 @@ pub record NoCoil (b : Block) (p : ℕ) : Type 0 where
 -- the table stays as long as it was
 abbrev pub SameLong : Type 0
 SameLong =
-    (net : Network) (earlier : ℕ) (b : Block) (t : List ℕ) → Runs net earlier b t → (on : Power) → length (block-table net b t on) ≡ length t
+    (net : Network) (earlier : ℕ) (b : Block) (t : Table) → Runs net earlier b t → (on : Power) → length (block-table net b t on) ≡ length t
 
 -- every bit of the table afterwards
 abbrev pub EveryBit : Type 0
 EveryBit =
-    (net : Network) (earlier : ℕ) (b : Block) (t : List ℕ) → Runs net earlier b t → (on : Power) (p : ℕ) →
+    (net : Network) (earlier : ℕ) (b : Block) (t : Table) → Runs net earlier b t → (on : Power) (p : ℕ) →
     bit (block-table net b t on) p ≡ or-stays (bit-written net b on (effect-on net b t on) p) (bit t p)
 
 -- the frame: a block changes no bit but those that it writes
 abbrev pub Frame : Type 0
 Frame =
-    (net : Network) (earlier : ℕ) (b : Block) (t : List ℕ) → Runs net earlier b t → (on : Power) (p : ℕ) →
+    (net : Network) (earlier : ℕ) (b : Block) (t : Table) → Runs net earlier b t → (on : Power) (p : ℕ) →
     bit-written net b on (effect-on net b t on) p ≡ none → bit (block-table net b t on) p ≡ bit t p
 
 -- a position that is no bit of an MBIT's pointer, where that is held, and none of its coils
@@ -98,7 +98,7 @@ pub record Beside (net : Network) (b : Block) (p : ℕ) : Type 0 where
 -- without power, at 0 and over 16n no bit is
 abbrev pub ModifiesOneBit : Type 0
 ModifiesOneBit =
-    (net : Network) (earlier : ℕ) (b : Block) (t : List ℕ) → Runs net earlier b t → b .kind ≡ 6 → (on : Power) (p : ℕ) → Beside net b p →
+    (net : Network) (earlier : ℕ) (b : Block) (t : Table) → Runs net earlier b t → b .kind ≡ 6 → (on : Power) (p : ℕ) → Beside net b p →
     let at = pointer-in net (b .top) t in
     bit (block-table net b t on) p
     ≡ cond (on .top && (leb 1 at && leb at (16 * b .n))) (cond (eqb p (16 * first-word net (b .middle) + at)) (on .middle) (bit t p)) (bit t p)
@@ -106,7 +106,7 @@ ModifiesOneBit =
 -- discrete inputs and input registers never change: they stand after the coils and before the holding registers
 abbrev pub InputsStay : Type 0
 InputsStay =
-    (net : Network) (earlier : ℕ) (b : Block) (t : List ℕ) → Runs net earlier b t → (on : Power) (p : ℕ) →
+    (net : Network) (earlier : ℕ) (b : Block) (t : Table) → Runs net earlier b t → (on : Power) (p : ℕ) →
     16 * net .sizes .coils < p → p ≤ 16 * (net .sizes .coils + net .sizes .discretes + net .sizes .inputs) → bit (block-table net b t on) p ≡ bit t p
 
 -- ---- the key rule
@@ -134,32 +134,32 @@ destination-at SENS net b = none
 destination-at BROT net b = none
 
 -- its pointer, where its kind has one
-abbrev pub pointer-of : Kind → Network → Block → List ℕ → Option ℕ
-pointer-of AND net b t = none
-pointer-of OR net b t = none
-pointer-of XOR net b t = none
-pointer-of COMP net b t = none
-pointer-of CMPR net b t = some (pointer-in net (b .middle) t)
-pointer-of MBIT net b t = some (pointer-in net (b .top) t)
-pointer-of SENS net b t = some (pointer-in net (b .top) t)
-pointer-of BROT net b t = none
+abbrev pub pointer-seen : Kind → Network → Block → Table → Option ℕ
+pointer-seen AND net b t = none
+pointer-seen OR net b t = none
+pointer-seen XOR net b t = none
+pointer-seen COMP net b t = none
+pointer-seen CMPR net b t = some (pointer-in net (b .middle) t)
+pointer-seen MBIT net b t = some (pointer-in net (b .top) t)
+pointer-seen SENS net b t = some (pointer-in net (b .top) t)
+pointer-seen BROT net b t = none
 
 -- two tables have the same bits in the n words from an index on, where there is one
-abbrev pub SameFrom : Option ℕ → ℕ → List ℕ → List ℕ → Type 0
+abbrev pub SameFrom : Option ℕ → ℕ → Table → Table → Type 0
 SameFrom none n t u = Unit {0}
 SameFrom (some s) n t u = (p : ℕ) → 16 * s < p → p ≤ 16 * (s + n) → bit t p ≡ bit u p
 
 -- two tables agree on a block's source, on its destination matrix and on its pointer
-pub record Agree (net : Network) (b : Block) (t u : List ℕ) : Type 0 where
+pub record Agree (net : Network) (b : Block) (t u : Table) : Type 0 where
   pub on-source : SameFrom (source-at (kind-of (b .kind)) net b) (b .n) t u
   pub on-destination : SameFrom (destination-at (kind-of (b .kind)) net b) (b .n) t u
-  pub on-pointer : pointer-of (kind-of (b .kind)) net b t ≡ pointer-of (kind-of (b .kind)) net b u
+  pub on-pointer : pointer-seen (kind-of (b .kind)) net b t ≡ pointer-seen (kind-of (b .kind)) net b u
 
 -- two tables that agree on a block's source, on its destination matrix where the kind is AND, OR, XOR, CMPR or MBIT, and on its
 -- pointer, with equal three inputs, give equal outputs and equal values in every bit that the block writes
 abbrev pub KeyRule : Type 0
 KeyRule =
-    (net : Network) (earlier : ℕ) (b : Block) (t u : List ℕ) → Runs net earlier b t → Runs net earlier b u → Agree net b t u → (on : Power) →
+    (net : Network) (earlier : ℕ) (b : Block) (t u : Table) → Runs net earlier b t → Runs net earlier b u → Agree net b t u → (on : Power) →
     (block-outputs net b t on ≡ block-outputs net b u on)
     × ((p : ℕ) (x : Bool) → bit-written net b on (effect-on net b t on) p ≡ some x →
     (bit (block-table net b t on) p ≡ x) × (bit (block-table net b u on) p ≡ x))

@@ -5,6 +5,7 @@ use mathlib.Core.Bool.{Bool, true, false, not, cond}
 use mathlib.Core.List.{List}
 use lib.Dec.{eqb}
 use lib.ListN.{getD}
+use Rattle.verdict.specs.Lists.{Table}
 use Rattle.bits.specs.Bit.{bit}
 use Rattle.runs.specs.Run.{run}
 use Rattle.record.specs.declared.{Input.Input, Inputs.Inputs}
@@ -13,10 +14,10 @@ use Rattle.blocks.specs.declared.{Power.Power, Outputs.Outputs}
 use Rattle.blocks.specs.Answer.{no-outputs}
 
 -- the bit of a coil, and of a discrete input: reference 1 is worth 32768 in its area's first word
-abbrev pub coil : Network → List ℕ → ℕ → Bool
+abbrev pub coil : Network → Table → ℕ → Bool
 coil net t number = bit (run t 0 (net .sizes .coils)) number
 
-abbrev pub discrete-input : Network → List ℕ → ℕ → Bool
+abbrev pub discrete-input : Network → Table → ℕ → Bool
 discrete-input net t number = bit (run t (net .sizes .coils) (net .sizes .discretes)) number
 
 -- the outputs of an earlier block numbered from 1
@@ -26,7 +27,7 @@ of-block outs number = getD outs (number - 1) no-outputs
 -- Codes: 0 never, 1 always; 2 and 3 open and closed contact of a coil, 4 and 5 of a discrete input: an open contact passes
 -- power when its bit is 1, a closed one when it is 0; 6, 7, 8 the top, middle, bottom output of an earlier block. No input that
 -- the checker takes has another code.
-unfoldable pub passes : Network → List ℕ → List Outputs → Input → Bool
+unfoldable pub passes : Network → Table → List Outputs → Input → Bool
 passes net t outs input =
     cond (eqb (input .code) 0) false
     (cond (eqb (input .code) 1) true
@@ -38,7 +39,7 @@ passes net t outs input =
     (cond (eqb (input .code) 7) (of-block outs (input .number) .middle)
     (of-block outs (input .number) .bottom))))))))
 
-abbrev pub power-on : Network → List ℕ → List Outputs → Inputs → Power
+abbrev pub power-on : Network → Table → List Outputs → Inputs → Power
 power-on net t outs inputs = record {
   top = passes net t outs (inputs .top);
   middle = passes net t outs (inputs .middle);

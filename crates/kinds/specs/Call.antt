@@ -3,8 +3,8 @@
 -- or a pointer's register outside the table, at place 0. And the pointer that a block shows. Assumes nothing.
 use Prim.Native.Nat.{ℕ}
 use mathlib.Core.Bool.{cond}
-use mathlib.Core.List.{List}
 use lib.ListN.{length}
+use Rattle.verdict.specs.Lists.{Table}
 use Rattle.runs.specs.Run.{fault, unless}
 use Rattle.bits.specs.Bit.{longest-whole}
 use Rattle.rules.specs.Rules.{kind}
@@ -48,14 +48,14 @@ pointer-word SENS one = one .top
 pointer-word BROT one = one .top
 
 -- what the block is to do, with so much power on its inputs
-abbrev pub effect-here : Located → List ℕ → Power → Effect
+abbrev pub effect-here : Located → Table → Power → Effect
 effect-here one t on = effect-as (kind-of (one .block .kind)) (one .block) (seen-by (kind-of (one .block .kind)) one t) on
 
-unfoldable pub work-answer : Located → List ℕ → Power → Worked
+unfoldable pub work-answer : Located → Table → Power → Worked
 unfolding kind-of seen-by effect-of work-fault
 work-answer one t on = unless (work-fault one (length t)) (finished (outputs on (effect-here one t on))) (refused (work-fault one (length t)))
 
-unfoldable pub work-table : Located → List ℕ → Power → List ℕ
+unfoldable pub work-table : Located → Table → Power → Table
 unfolding kind-of seen-by effect-of matrix-put change-put work-fault
 work-table one t on =
     unless (work-fault one (length t)) (effect-put (one .middle) (one .block .n) (pointer-word (kind-of (one .block .kind)) one) (effect-here one t on) t) t
@@ -63,7 +63,7 @@ work-table one t on =
 -- ---- the pointer that a block shows
 
 -- a constant itself, or the register's content, 0 where that is outside the table; 0 for a kind without one
-unfoldable pub pointer-shown : Located → List ℕ → ℕ
+unfoldable pub pointer-shown : Located → Table → ℕ
 unfolding kind-of
 pointer-shown one t =
     cond (has-pointer (one .block .kind))

@@ -3,9 +3,10 @@
 use Prim.Native.Nat.{ℕ, zero, suc, _+_, _/_, _%_, _<_}
 use mathlib.Core.Path.{_≡_}
 use mathlib.Core.Bool.{Bool, cond}
-use mathlib.Core.List.{List, [], _∷_, _++_}
+use mathlib.Core.List.{[], _∷_, _++_}
 use lib.Dec.{leb, ltb, eqb}
 use lib.ListN.{length, take, drop}
+use Rattle.verdict.specs.Lists.{Text}
 use Rattle.verdict.specs.declared.Verdict.{Verdict}
 use Rattle.io.specs.Digits.{Fewest, digits as kit-digits}
 use Rattle.blocks.specs.declared.Outputs.{Outputs}
@@ -18,16 +19,16 @@ unfoldable pub places : ℕ → ℕ
 places n = cond (ltb n 10) 1 (cond (ltb n 100) 2 (cond (ltb n 1000) 3 (cond (ltb n 10000) 4 5)))
 
 -- the last k decimal digits of a number, the highest first
-unfoldable pub digits : ℕ → ℕ → List ℕ
+unfoldable pub digits : ℕ → ℕ → Text
 digits zero n = []
 digits (suc k) n = digits k (n / 10) ++ (48 + n % 10) ∷ []
 
-unfoldable pub decimal : ℕ → List ℕ
+unfoldable pub decimal : ℕ → Text
 unfolding places digits
 decimal n = digits (places n) n
 
 -- a number and a space
-abbrev pub field : ℕ → List ℕ
+abbrev pub field : ℕ → Text
 field n = decimal n ++ 32 ∷ []
 
 -- ---- one line: scan, block, top, middle, bottom, pointer
@@ -36,38 +37,38 @@ field n = decimal n ++ 32 ∷ []
 abbrev pub digit : Bool → ℕ
 digit on = cond on 49 48
 
-abbrev pub output-fields : Outputs → List ℕ
+abbrev pub output-fields : Outputs → Text
 output-fields out = digit (out .top) ∷ 32 ∷ digit (out .middle) ∷ 32 ∷ digit (out .bottom) ∷ 32 ∷ []
 
 -- the pointer, or `-` for kinds without one
-unfoldable pub pointer-field : ℕ → ℕ → List ℕ
+unfoldable pub pointer-field : ℕ → ℕ → Text
 unfolding decimal
 pointer-field kind pointer = cond (has-pointer kind) (decimal pointer) (45 ∷ [])
 
-unfoldable pub line : ℕ → ℕ → Outputs → List ℕ → List ℕ
+unfoldable pub line : ℕ → ℕ → Outputs → Text → Text
 unfolding decimal
 line s k out mark = field s ++ field k ++ output-fields out ++ mark ++ 10 ∷ []
 
 -- ---- the first line, `blocks B words W`, and the last, `end S`
-unfoldable pub head-line : ℕ → ℕ → List ℕ
+unfoldable pub head-line : ℕ → ℕ → Text
 unfolding decimal
 head-line count table =
     98 ∷ 108 ∷ 111 ∷ 99 ∷ 107 ∷ 115 ∷ 32 ∷ decimal count ++ 32 ∷ 119 ∷ 111 ∷ 114 ∷ 100 ∷ 115 ∷ 32 ∷ decimal table ++ 10 ∷ []
 
-unfoldable pub end-line : ℕ → List ℕ
+unfoldable pub end-line : ℕ → Text
 unfolding decimal
 end-line scans = 101 ∷ 110 ∷ 100 ∷ 32 ∷ decimal scans ++ 10 ∷ []
 
 -- ---- the one line of a refusal, `refused`, number, place
-unfoldable pub refusal-line : Verdict → List ℕ
+unfoldable pub refusal-line : Verdict → Text
 unfolding decimal
 refusal-line v = 114 ∷ 101 ∷ 102 ∷ 117 ∷ 115 ∷ 101 ∷ 100 ∷ 32 ∷ field (v .number) ++ decimal (v .place) ++ 10 ∷ []
 
 -- the first line stands before scan 1 alone, the last line after the last scan alone
-abbrev pub first-line : ℕ → ℕ → ℕ → List ℕ
+abbrev pub first-line : ℕ → ℕ → ℕ → Text
 first-line from count table = cond (eqb from 1) (head-line count table) []
 
-abbrev pub last-line : ℕ → ℕ → List ℕ
+abbrev pub last-line : ℕ → ℕ → Text
 last-line next scans = cond (eqb next (scans + 1)) (end-line scans) []
 
 -- ---- a line laid into a buffer from a place on
@@ -80,11 +81,11 @@ abbrev pub line-fits : ℕ → ℕ → Bool
 line-fits room at = leb (at + longest-line) room
 
 -- the place after the line
-abbrev pub place-after : ℕ → List ℕ → List ℕ → ℕ
+abbrev pub place-after : ℕ → Text → Text → ℕ
 place-after at bytes text = cond (line-fits (length text) at) (at + length bytes) at
 
 -- the buffer that holds it; every other byte stays
-abbrev pub laid : ℕ → List ℕ → List ℕ → List ℕ
+abbrev pub laid : ℕ → Text → Text → Text
 laid at bytes text = cond (line-fits (length text) at) (take at text ++ (bytes ++ drop (at + length bytes) text)) text
 
 -- ---- the digits of a number are those of the kit's `io::decimal`, and there are no more than it needs

@@ -2,8 +2,8 @@
 -- on both matrices' bits, both as they were before. Assumes nothing.
 use Prim.Native.Nat.{ℕ}
 use mathlib.Core.Bool.{Bool, not, _&&_, _||_, xor}
-use mathlib.Core.List.{List}
 use lib.ListN.{length}
+use Rattle.verdict.specs.Lists.{Table}
 use Rattle.verdict.specs.declared.Verdict.{Verdict}
 use Rattle.bits.specs.Bit.{bit, matrix, longest-whole}
 use Rattle.matrix.specs.declared.{logic.Operation.Operation, logic.Operation.the-variants.And, logic.Operation.the-variants.Or, logic.Operation.the-variants.Xor, logic.Operation.the-variants.Comp}
@@ -24,7 +24,7 @@ combine-fault words s d n = fault longest-whole words n s d
 abbrev pub combine-verdict : ℕ → ℕ → ℕ → ℕ → Verdict
 combine-verdict words s d n = placeless (combine-fault words s d n)
 
-unfoldable pub combine-table : Operation → List ℕ → ℕ → ℕ → ℕ → List ℕ
+unfoldable pub combine-table : Operation → Table → ℕ → ℕ → ℕ → Table
 combine-table operation t s d n =
     unless (combine-fault (length t) s d n)
     (placed t d (matrix n (λ p. combined operation (bit (run t s n) p) (bit (run t d n) p))))

@@ -6,6 +6,7 @@ use mathlib.Core.List.{List, [], _∷_}
 use mathlib.Core.Option.{none}
 use lib.Dec.{leb, eqb}
 use lib.ListN.{length, drop}
+use Rattle.verdict.specs.Lists.{Words}
 use Rattle.verdict.specs.declared.Verdict.{Verdict}
 use Rattle.section.specs.Walk.{word}
 use Rattle.verdict.specs.Verdict.{verdict, done, then}
@@ -20,7 +21,7 @@ use Rattle.network.specs.declared.{checker.Opened.Opened, reading.Read.R
 use Rattle.network.specs.Network.{Network, areas-only, block-count}
 
 -- ---- the areas: count 4, then the four sizes in words, each up to its limit (3)
-abbrev pub sizes-in : List ℕ → Sizes
+abbrev pub sizes-in : Words → Sizes
 sizes-in ws = record { coils = word ws 0; discretes = word ws 1; inputs = word ws 2; holding = word ws 3 }
 
 unfoldable pub areas-section : Section Network
@@ -34,7 +35,7 @@ areas-section = record {
 abbrev pub most-blocks : ℕ
 most-blocks = 128
 
-unfoldable pub block-faults : Sizes → ℕ → List ℕ → List ℕ
+unfoldable pub block-faults : Sizes → ℕ → Words → List ℕ
 block-faults z earlier ws = faults z earlier (block-in ws)
 
 unfoldable pub blocks-section : Section Network
@@ -52,33 +53,33 @@ abbrev pub no-network : Network
 no-network = areas-only (sizes-in [])
 
 -- the network that the words spell, whatever they earn, and where its words end
-unfoldable pub network-in : List ℕ → Network
+unfoldable pub network-in : Words → Network
 network-in ws = meaning sections no-network ws
 
-unfoldable pub network-end : List ℕ → ℕ
+unfoldable pub network-end : Words → ℕ
 network-end ws = end sections no-network ws
 
 -- the verdict on the network at the front of the words, whatever follows it, and on one that is all of the words
-unfoldable pub front-checked : List ℕ → Verdict
+unfoldable pub front-checked : Words → Verdict
 front-checked ws = front sections no-network ws
 
-unfoldable pub checked : List ℕ → Verdict
+unfoldable pub checked : Words → Verdict
 checked ws = whole sections no-network ws false
 
 -- a verdict with what the words spell
-abbrev pub opened-with : List ℕ → Verdict → Opened
+abbrev pub opened-with : Words → Verdict → Opened
 opened-with ws v = record { verdict = v; sizes = network-in ws .sizes; count = block-count (network-in ws); next = network-end ws }
 
-abbrev pub leading : List ℕ → Opened
+abbrev pub leading : Words → Opened
 leading ws = opened-with ws (front-checked ws)
 
-abbrev pub opened : List ℕ → Opened
+abbrev pub opened : Words → Opened
 opened ws = opened-with ws (checked ws)
 
 -- ---- the reader: its answer says a record, or a refusal and no record
-abbrev pub read-said : Read → Said Block
-read-said (Record b) = said-by done b
-read-said (Refused v) = record { verdict = v; value = none }
+abbrev pub record-said : Read → Said Block
+record-said (Record b) = said-by done b
+record-said (Refused v) = record { verdict = v; value = none }
 
 -- the opening's refusal, or 12 when k isn't 1 to the count or the words, so many, are fewer than the opening's network has
 unfoldable pub read-verdict : Opened → ℕ → ℕ → Verdict
@@ -88,8 +89,8 @@ read-verdict o k size = then (o .verdict) (cond (leb 1 k && leb k (o .count) && 
 abbrev pub record-start : ℕ → ℕ
 record-start earlier = 6 + record-words * earlier
 
-unfoldable pub read-at : List ℕ → Opened → ℕ → Said Block
+unfoldable pub read-at : Words → Opened → ℕ → Said Block
 read-at ws o k = said-by (read-verdict o k (length ws)) (block-in (drop (record-start (k - 1)) ws))
 
-abbrev pub read : List ℕ → ℕ → Said Block
+abbrev pub read : Words → ℕ → Said Block
 read ws k = read-at ws (opened ws) k

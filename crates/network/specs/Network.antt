@@ -2,6 +2,7 @@
 use Prim.Native.Nat.{ℕ}
 use mathlib.Core.List.{List, [], _∷_, flatMap}
 use lib.ListN.{length, getD}
+use Rattle.verdict.specs.Lists.{Words}
 use Rattle.table.specs.declared.sizes.Sizes.{Sizes}
 use Rattle.record.specs.declared.Block.{Block}
 use Rattle.record.specs.Record.{block-in, spelled}
@@ -26,7 +27,7 @@ abbrev pub block-of : Network → ℕ → Block
 block-of net k = getD (net .blocks) k no-block
 
 -- its words: the areas, then the blocks, each section after its count
-unfoldable pub words-of : Network → List ℕ
+unfoldable pub words-of : Network → Words
 words-of net =
     4 ∷ net .sizes .coils ∷ net .sizes .discretes ∷ net .sizes .inputs ∷ net .sizes .holding
     ∷ block-count net ∷ flatMap spelled (net .blocks)

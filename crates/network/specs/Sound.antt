@@ -2,8 +2,8 @@
 -- round trip between networks and words (demand 2). Assumes nothing.
 use Prim.Native.Nat.{ℕ, _≤_, _<_}
 use mathlib.Core.Path.{_≡_}
-use mathlib.Core.List.{List}
 use mathlib.Core.Logic.{_↔_}
+use Rattle.verdict.specs.Lists.{Words}
 use Rattle.table.specs.Sound.{GoodSizes}
 use Rattle.rules.specs.Sound.{GoodBlock}
 use Rattle.network.specs.Network.{Network, block-count, block-of, words-of}
@@ -16,13 +16,13 @@ pub record GoodNetwork (net : Network) : Type 0 where
   pub blocks : (k : ℕ) → k < block-count net → GoodBlock (net .sizes) k (block-of net k)
 
 -- words that are those of the network that they spell, which is good
-pub record Sound (ws : List ℕ) : Type 0 where
+pub record Sound (ws : Words) : Type 0 where
   pub network : GoodNetwork (network-in ws)
   pub words : words-of (network-in ws) ≡ ws
 
 -- the checker accepts exactly the sound words
 abbrev pub AcceptsExactly : Type 0
-AcceptsExactly = (ws : List ℕ) → (checked ws .number ≡ 0) ↔ Sound ws
+AcceptsExactly = (ws : Words) → (checked ws .number ≡ 0) ↔ Sound ws
 
 -- A network's words spell it.
 abbrev pub SpellsBack : Type 0

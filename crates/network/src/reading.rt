@@ -4,7 +4,7 @@ use record::Block;
 use record::block_at;
 use verdict::Verdict;
 ghost use mathlib.Core.Path.{_≡_};
-ghost use Rattle.network.specs.Check.{read-said, read-at};
+ghost use Rattle.network.specs.Check.{record-said, read-at};
 
 // A record, or a refusal.
 pub enum Read {
@@ -15,7 +15,7 @@ pub enum Read {
 // The record of block k of a network that was opened before: the opening's refusal, 12 for a block that is not there or words that
 // are fewer than the network's, or what the words spell. It checks no word again.
 pub fn record_at(words: &[u16], o: Opened, k: usize) -> Read
-    ensures { λ r. ⌜ read-said r ≡ read-at (now (words .entry)) o k ⌝ }
+    ensures { λ r. ⌜ record-said r ≡ read-at (now (words .entry)) o k ⌝ }
 {
     let verdict = o.verdict;
     let count = o.count;

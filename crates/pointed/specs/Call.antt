@@ -2,8 +2,9 @@
 -- refusal or 0, and what it is to do. Assumes nothing.
 use Prim.Native.Nat.{ℕ, _+_}
 use mathlib.Core.Bool.{Bool, cond, _||_}
-use mathlib.Core.List.{List, []}
+use mathlib.Core.List.{[]}
 use lib.Dec.{eqb, ltb}
+use Rattle.verdict.specs.Lists.{Table}
 use Rattle.runs.specs.Run.{run, fault, unless}
 use Rattle.bits.specs.Bit.{longest-whole, longest}
 use Rattle.record.specs.declared.Node.{Node}
@@ -22,11 +23,11 @@ pointed-fault words node register n d =
 
 -- CMPR: the n words from s on against the n words after the pointer's register at p; MBIT: the n words from d on; SENS: from s on. The pointer
 -- is `at`
-abbrev pub compared-at : ℕ → List ℕ → ℕ → ℕ → ℕ → Power → Effect
+abbrev pub compared-at : ℕ → Table → ℕ → ℕ → ℕ → Power → Effect
 compared-at at t s p n on = compare n (seen (run t s n) (run t (p + 1) n) at) on
 
-abbrev pub modified-at : Bool → ℕ → List ℕ → ℕ → ℕ → Power → Effect
+abbrev pub modified-at : Bool → ℕ → Table → ℕ → ℕ → Power → Effect
 modified-at held at t d n on = modify held n (seen [] (run t d n) at) on
 
-abbrev pub sensed-at : Bool → ℕ → List ℕ → ℕ → ℕ → Power → Effect
+abbrev pub sensed-at : Bool → ℕ → Table → ℕ → ℕ → Power → Effect
 sensed-at held at t s n on = sense held n (seen (run t s n) [] at) on

@@ -6,7 +6,7 @@ use network::Read;
 use network::opening;
 use network::record_at;
 ghost use mathlib.Core.Path.{_≡_};
-ghost use Rattle.network.specs.Check.{read-said, read-at, read};
+ghost use Rattle.network.specs.Check.{record-said, read-at, read};
 ghost use Rattle.reader.specs.Reader.{OpenedOn};
 
 // A reader over the lent words, with what opening them found.
@@ -35,7 +35,7 @@ impl<'a> Reader<'a> {
 
     // The record of block k: the checker's refusal, 12, or what the words spell.
     pub fn record(self, k: usize) -> Read
-        ensures { λ r. ⌜ read-said r ≡ read-at (now (self .entry .words)) (self .entry .found) k ⌝ }
+        ensures { λ r. ⌜ record-said r ≡ read-at (now (self .entry .words)) (self .entry .found) k ⌝ }
     {
         record_at(self.words, self.found, k)
     }
@@ -43,7 +43,7 @@ impl<'a> Reader<'a> {
 
 // The record of block k of these words, which are checked first.
 pub fn record_of(words: &[u16], k: usize) -> Read
-    ensures { λ r. ⌜ read-said r ≡ read (now (words .entry)) k ⌝ }
+    ensures { λ r. ⌜ record-said r ≡ read (now (words .entry)) k ⌝ }
 {
     Reader::open(words).record(k)
 }

@@ -1,8 +1,9 @@
 -- A block's record and its 15 words (document 01, "A network in words"): kind; length n; top node (class, number); middle
 -- node (class, number); top, middle and bottom input (code, number each); three coil numbers. Assumes nothing.
 use Prim.Native.Nat.{ℕ}
-use mathlib.Core.List.{List, [], _∷_}
+use mathlib.Core.List.{[], _∷_}
 use lib.ListN.{drop}
+use Rattle.verdict.specs.Lists.{Words}
 use Rattle.section.specs.Walk.{word}
 use Rattle.record.specs.declared.{Node.Node, Input.Input, Inputs.Inputs, Coils.Coils, Block.Block}
 
@@ -11,19 +12,19 @@ abbrev pub record-words : ℕ
 record-words = 15
 
 -- what stands at the front of the words
-abbrev pub node-in : List ℕ → Node
+abbrev pub node-in : Words → Node
 node-in ws = record { class = word ws 0; number = word ws 1 }
 
-abbrev pub input-in : List ℕ → Input
+abbrev pub input-in : Words → Input
 input-in ws = record { code = word ws 0; number = word ws 1 }
 
-abbrev pub inputs-in : List ℕ → Inputs
+abbrev pub inputs-in : Words → Inputs
 inputs-in ws = record { top = input-in ws; middle = input-in (drop 2 ws); bottom = input-in (drop 4 ws) }
 
-abbrev pub coils-in : List ℕ → Coils
+abbrev pub coils-in : Words → Coils
 coils-in ws = record { top = word ws 0; middle = word ws 1; bottom = word ws 2 }
 
-unfoldable pub block-in : List ℕ → Block
+unfoldable pub block-in : Words → Block
 block-in ws = record {
   kind = word ws 0;
   n = word ws 1;
@@ -34,7 +35,7 @@ block-in ws = record {
 }
 
 -- a record's words
-unfoldable pub spelled : Block → List ℕ
+unfoldable pub spelled : Block → Words
 spelled b =
     b .kind ∷ b .n
     ∷ b .top .class ∷ b .top .number

@@ -5,7 +5,7 @@ use outputs::Outputs;
 use reader::Reader;
 use verdict::Verdict;
 ghost use mathlib.Core.Path.{_≡_};
-ghost use Rattle.network.specs.Check.{opened, read-said, read};
+ghost use Rattle.network.specs.Check.{opened, record-said, read};
 ghost use Rattle.outputs.specs.Records.{Recorded};
 
 // What a reader says of the words that it was opened on, and of block k.
@@ -16,7 +16,7 @@ pub(crate) struct Asked {
 
 // A reader is opened on the words and asked twice.
 pub(crate) fn ask(words: &[u16], k: usize) -> Asked
-    ensures { λ r. ⌜ (r .opened ≡ opened (now (words .entry))) × (read-said (r .read) ≡ read (now (words .entry)) k) ⌝ }
+    ensures { λ r. ⌜ (r .opened ≡ opened (now (words .entry))) × (record-said (r .read) ≡ read (now (words .entry)) k) ⌝ }
 {
     let reader = Reader::open(words);
     Asked {

@@ -5,17 +5,18 @@
 -- at place 0. Assumes nothing.
 use Prim.Native.Nat.{ℕ, _+_, _*_, _≤_}
 use mathlib.Core.Bool.{cond, _&&_}
-use mathlib.Core.List.{List, _++_}
+use mathlib.Core.List.{_++_}
 use lib.Dec.{leb, eqb}
 use lib.ListN.{length, take, drop}
+use Rattle.verdict.specs.Lists.{Table, Matrix}
 use Rattle.bits.specs.Bit.{longest}
 
 -- the n words of a table from word s on
-abbrev pub run : List ℕ → ℕ → ℕ → List ℕ
+abbrev pub run : Table → ℕ → ℕ → Matrix
 run t s n = take n (drop s t)
 
 -- the table with a matrix in the place of as many words from word s on
-abbrev pub placed : List ℕ → ℕ → List ℕ → List ℕ
+abbrev pub placed : Table → ℕ → Matrix → Table
 placed t s m = take s t ++ m ++ drop (s + length m) t
 
 -- what two runs of n words from a and from b on earn in a table of so many words, by a call that takes 1 to most words:

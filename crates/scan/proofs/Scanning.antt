@@ -11,7 +11,7 @@ use Rattle.record.specs.declared.Block.{Block}
 use Rattle.network.specs.declared.checker.Opened.{Opened}
 use Rattle.network.specs.declared.reading.Read.the-variants.{Record, Refused}
 use Rattle.network.specs.Network.{Network, no-block, block-of, block-count}
-use Rattle.network.specs.Check.{opened, checked, network-in, read-said, read-at}
+use Rattle.network.specs.Check.{opened, checked, network-in, record-said, read-at}
 use Rattle.network.proofs.ReadAt.{said-once}
 use Rattle.network.proofs.Values.{opened-sizes, opened-count, reads-block}
 use Rattle.scan.specs.Scan.{State, fresh, step, steps, scanned}
@@ -96,10 +96,10 @@ module _ (ws : List ℕ) {o : Opened} (e : o ≡ opened ws) where
 
 -- ---- the reader's answer is the record of the next block
 module _ (ws : List ℕ) (o : Opened) (k : ℕ) (e : o ≡ opened ws) (h : checked ws .number ≡ 0) (l : k < block-count (network-in ws)) where
-  pub is-next : {b : Block} → read-at ws o (k + 1) ≡ read-said (Record b) → b ≡ block-of (network-in ws) k
+  pub is-next : {b : Block} → read-at ws o (k + 1) ≡ record-said (Record b) → b ≡ block-of (network-in ws) k
   is-next {b} q = let p : Record b ≡ Record (block-of (network-in ws) k) = said-once (Record b) (Record (block-of (network-in ws) k)) (sym q ∙ reads-block ws o k e h l) in cc
 
-  pub is-read : {v : Verdict} → read-at ws o (k + 1) ≡ read-said (Refused v) → ⊥
+  pub is-read : {v : Verdict} → read-at ws o (k + 1) ≡ record-said (Refused v) → ⊥
   is-read {v} q =
       let p : Refused v ≡ Record (block-of (network-in ws) k) = said-once (Refused v) (Record (block-of (network-in ws) k)) (sym q ∙ reads-block ws o k e h l) in
       let z : _≡_ {A = ℕ} 0 1 = cc in omega arith

@@ -4,6 +4,7 @@ use Prim.Native.Nat.{ℕ, _+_, _*_, _≤_, _<_}
 use mathlib.Core.Path.{_≡_}
 use mathlib.Core.List.{List, _++_, map}
 use lib.ListN.{length, getD, take, drop, set}
+use Rattle.verdict.specs.Lists.{Words, Table}
 use Rattle.record.specs.declared.{Block.Block}
 use Rattle.network.specs.declared.{checker.Opened.Opened}
 use Rattle.blocks.specs.declared.{Power.Power, Located.Located}
@@ -20,7 +21,7 @@ use Rattle.scan.specs.Scans.{pointer-of, scans-table, scans-outputs, sca
 -- ---- blocks
 
 -- a block of a checked network, located, and a table of exactly its areas
-pub record Ready (net : Network) (one : Located) (t : List ℕ) : Type 0 where
+pub record Ready (net : Network) (one : Located) (t : Table) : Type 0 where
   pub earlier : ℕ
   pub runs : Runs net earlier (one .block) t
   pub lies : one ≡ located net (one .block)
@@ -29,14 +30,14 @@ pub record Ready (net : Network) (one : Located) (t : List ℕ) : Type 0 where
 
 -- block k + 1 of a checked network, its table, and lists with an entry for it after those of the k earlier blocks of this scan, which
 -- stand from an entry on
-pub record Next (net : Network) (one : Located) (t outputs pointers : List ℕ) (first k : ℕ) : Type 0 where
+pub record Next (net : Network) (one : Located) (t : Table) (outputs pointers : List ℕ) (first k : ℕ) : Type 0 where
   pub runs : Runs net k (one .block) t
   pub lies : one ≡ located net (one .block)
   pub entry : first + k < length outputs
   pub pointer-entry : first + k < length pointers
 
 -- the power on a block's inputs, where the outputs of the k earlier blocks are packed
-abbrev pub power-of : Network → Block → List ℕ → List ℕ → ℕ → ℕ → Power
+abbrev pub power-of : Network → Block → Table → List ℕ → ℕ → ℕ → Power
 power-of net b t outputs first k = power-on net t (map unpacked (take k (drop first outputs))) (b .inputs)
 
 -- the table that the block leaves, and its outputs and its pointer in their entries
@@ -46,7 +47,7 @@ pub record Ran (net : Network) (one : Located) (first k : ℕ) (t outputs pointe
   pub pointer-after : pointers-left ≡ set pointers (first + k) (pointer-of net (one .block) table)
 
 -- an opening of these words, which are accepted
-pub record Legible (ws : List ℕ) (o : Opened) : Type 0 where
+pub record Legible (ws : Words) (o : Opened) : Type 0 where
   pub opens : o ≡ opened ws
   pub accepted : checked ws .number ≡ 0
 
@@ -61,7 +62,7 @@ Locates net blocks = (k : ℕ) → k < block-count net → (otherwise : Located)
 -- ---- several scans
 
 -- an opening of these words, and a table and lists with which so many scans are not refused
-pub record Repeatable (ws : List ℕ) (o : Opened) (t : List ℕ) (times : ℕ) (outputs pointers : List ℕ) : Type 0 where
+pub record Repeatable (ws : Words) (o : Opened) (t : Table) (times : ℕ) (outputs pointers : List ℕ) : Type 0 where
   pub opens : o ≡ opened ws
   pub accepted : checked ws .number ≡ 0
   pub exact : length t ≡ total (network-in ws .sizes)

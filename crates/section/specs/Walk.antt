@@ -4,15 +4,16 @@ use mathlib.Core.Bool.{Bool, cond, _||_}
 use mathlib.Core.List.{List, [], _∷_}
 use lib.Dec.{ltb, eqb}
 use lib.ListN.{getD}
+use Rattle.verdict.specs.Lists.{Words}
 use Rattle.verdict.specs.declared.Verdict.{Verdict}
 use Rattle.verdict.specs.Verdict.{verdict, done}
 
 -- the word at an index, counted from 0; a missing word reads as 0
-abbrev pub word : List ℕ → ℕ → ℕ
+abbrev pub word : Words → ℕ → ℕ
 word ws i = getD ws i 0
 
 -- the first of the words
-abbrev pub first-of : List ℕ → ℕ
+abbrev pub first-of : Words → ℕ
 first-of ws = word ws 0
 
 -- The words from index i on, of so many, where a list has what each earns: the number of a refusal, or 0. The verdict is 1 at the

@@ -6,6 +6,7 @@ use mathlib.Core.Bool.{Bool, not, cond, _&&_, _||_}
 use mathlib.Core.List.{List, [], _∷_}
 use lib.Dec.{leb, eqb}
 use lib.ListN.{length, take, drop}
+use Rattle.verdict.specs.Lists.{Table, Matrix}
 use Rattle.bits.specs.Bit.{longest}
 use Rattle.section.specs.Limit.{up-to}
 use Rattle.table.specs.declared.sizes.Sizes.{Sizes}
@@ -77,6 +78,6 @@ shown words z class number n =
     (allowed z && eqb words (total z)) && ((leb 1 n && leb n longest) && (area class && eqb (reference-fault z class number n) 0))
 
 -- the part of the table that is that matrix, or an empty part
-unfoldable pub part : List ℕ → Sizes → ℕ → ℕ → ℕ → List ℕ
+unfoldable pub part : Table → Sizes → ℕ → ℕ → ℕ → Matrix
 unfolding shown start-of
 part t z class number n = cond (shown (length t) z class number n) (take n (drop (start-of z class number) t)) []

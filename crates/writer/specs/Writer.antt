@@ -1,9 +1,9 @@
 -- The record writer (document 01, "A writer puts one record into 15 lent words"). Assumes nothing.
 use Prim.Native.Nat.{ℕ, _-_}
 use mathlib.Core.Bool.{cond, _&&_}
-use mathlib.Core.List.{List}
 use lib.Dec.{leb, eqb}
 use lib.ListN.{length}
+use Rattle.verdict.specs.Lists.{Words}
 use Rattle.verdict.specs.declared.Verdict.{Verdict}
 use Rattle.verdict.specs.Verdict.{verdict, done, then}
 use Rattle.table.specs.declared.sizes.Sizes.{Sizes}
@@ -20,5 +20,5 @@ write-verdict z k b size =
     (then (cond (leb 1 k && leb k most-blocks) done (verdict 12 0))
     (then (judged z (k - 1) b 0 record-words) (cond (eqb size record-words) done (verdict 12 0))))
 
-unfoldable pub write-buffer : Sizes → ℕ → Block → List ℕ → List ℕ
+unfoldable pub write-buffer : Sizes → ℕ → Block → Words → Words
 write-buffer z k b buffer = cond (eqb (write-verdict z k b (length buffer) .number) 0) (spelled b) buffer

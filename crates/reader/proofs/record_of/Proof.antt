@@ -32,7 +32,7 @@ use denote.Triple.Spec.{tripleOf}
 use denote.Triple.Table.{cited}
 use denote.Triple.Walked.{says, Stays, stay-none, stay-none-slice, walkOf, goes-none, goes-none-slice, ends-at}
 use denote.Exit.{yes}
-use Rattle.network.specs.Check.{read-said, read-at, read}
+use Rattle.network.specs.Check.{record-said, read-at, read}
 use Rattle.network.specs.declared.reading.Read.{Read}
 use Rattle.network.proofs.reading.Read as R
 use Rattle.network.proofs.reading.Read.Laws as R′
@@ -83,7 +83,7 @@ module _ {M : Type 1} (𝓤 : URA M) (H : Heap 𝓤) (A : Atoms 𝓤) (W : Given
       qed W (‵ (Held (κ, tt) .own d (u ∷ [])) ∷ (‵ (flft κ q) ⊛ ‵ ftrue) ∷ []) ∵
       nothing ! $ owned ! usize (Is usize) (uint-makes 𝓤 H A W w64) k _ (refl, fits) $ fjoin ! $ move ! (1 ∷ 0 ∷ []) $ fjoin ! $ move ! (1 ∷ 0 ∷ []) $ join ! $ frame ! $ done !
 
-  exits : (r : Read) (u : Val) → read-said r ≡ read (now s) k → ent 𝓤 (⋆ 𝓤 H A (‵ (R.the-row .own r (u ∷ [])) ∷ (‵ (flft κ q) ⊛ ‵ ftrue) ∷ ‵ (Lent κ s) ∷ [])) (Post u)
+  exits : (r : Read) (u : Val) → record-said r ≡ read (now s) k → ent 𝓤 (⋆ 𝓤 H A (‵ (R.the-row .own r (u ∷ [])) ∷ (‵ (flft κ q) ⊛ ‵ ftrue) ∷ ‵ (Lent κ s) ∷ [])) (Post u)
   exits r u e =
       qed W (‵ (R.the-row .own r (u ∷ [])) ∷ (‵ (flft κ q) ⊛ ‵ ftrue) ∷ ‵ (Lent κ s) ∷ []) ∵
       suffices ! _ (ends-at 𝓤 H A record-of.ended stayed (record-of.clauses 𝓤 H A mem run) W (((κ, tt), (q, tt), tt, (s, (k, tt)), at), tt) u r (tt, (tt, tt)) (tt, (tt, tt))) $ says ! e $
@@ -99,7 +99,7 @@ module _ {M : Type 1} (𝓤 : URA M) (H : Heap 𝓤) (A : Atoms 𝓤) (W : Given
         -- [what the reader owns; the token; what the words own; room for _3; …; _2; …; _1; …; room for _0; …]
         land ! (from ! (stop !)) (init ! 3 refl (typed 𝓤 H A W (record { mir = erased; lft = κ }) d u is)) $
         use2 W (raw (Record 𝓤 H A mem run .pre (to-record d u, tt))) (goes d u) $
-        answers ! (fmOf 𝓤 H (W .laws) 𝓣) block.ended (block.clauses 𝓤 H A mem run) known-record (to-record d u) tt (λ r. read-said r ≡ read-at (now (d .words)) (d .found) k) (λ r ws. id⊢ 𝓤 _)
+        answers ! (fmOf 𝓤 H (W .laws) 𝓣) block.ended (block.clauses 𝓤 H A mem run) known-record (to-record d u) tt (λ r. record-said r ≡ read-at (now (d .words)) (d .found) k) (λ r ws. id⊢ 𝓤 _)
         (and-then ! (load ! (from ! (stop !)) (look ! 2 refl)) (and-then ! (load ! (from ! (stop !)) (look ! 4 refl)) (no-more !))) (λ v r e is′.
         -- [the result; the token; what the words own; _3; …; _2; …; _1; …; room for _0; …]
         land ! (from ! (stop !)) (init ! 9 refl (EL.lawful R.the-type R′.the-laws 𝓤 H A W tt .typed r _ is′ .0)) $

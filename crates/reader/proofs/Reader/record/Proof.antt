@@ -36,7 +36,7 @@ use denote.Triple.Walked.{says, Stays, stay-none, walkOf, goes-none, ends-at}
 use denote.Exit.{yes}
 use Rattle.verdict.specs.Said.{Said}
 use Rattle.record.specs.declared.Block.{Block}
-use Rattle.network.specs.Check.{read-said, read-at}
+use Rattle.network.specs.Check.{record-said, read-at}
 use Rattle.network.specs.declared.reading.Read.{Read}
 use Rattle.network.proofs.checker.Opened as O
 use Rattle.network.proofs.checker.Opened.Laws as O′
@@ -92,7 +92,7 @@ module _ {M : Type 1} (𝓤 : URA M) (H : Heap 𝓤) (A : Atoms 𝓤) (W : Given
       -- [what the opening owns; true; what the words own; what the reader owns; k's facts; the token]
       move ! (1 ∷ []) $ drop ! $ move ! (0 ∷ 3 ∷ []) $ fjoin ! $ move ! (1 ∷ 0 ∷ []) $ fjoin ! $ move ! (2 ∷ 0 ∷ []) $ use2 W (raw (RecordAt 𝓤 H A mem run .pre (to, tt))) asked $ frame ! $ done !
 
-  exits : (r : Read) (u : Val) → read-said r ≡ found → ent 𝓤 (⋆ 𝓤 H A (‵ (R.the-row .own r (u ∷ [])) ∷ (‵ (flft κ q) ⊛ ‵ ftrue) ∷ ‵ (Own κ d) ∷ [])) (Post u)
+  exits : (r : Read) (u : Val) → record-said r ≡ found → ent 𝓤 (⋆ 𝓤 H A (‵ (R.the-row .own r (u ∷ [])) ∷ (‵ (flft κ q) ⊛ ‵ ftrue) ∷ ‵ (Own κ d) ∷ [])) (Post u)
   exits r u e =
       qed W (‵ (R.the-row .own r (u ∷ [])) ∷ (‵ (flft κ q) ⊛ ‵ ftrue) ∷ ‵ (Own κ d) ∷ []) ∵
       suffices ! _ (ends-at 𝓤 H A block.ended stayed (block.clauses 𝓤 H A mem run) W (((κ, tt), (q, tt), tt, (d, (k, tt)), at), tt) u r (tt, (tt, tt)) (tt, (tt, tt))) $ says ! e $
@@ -106,7 +106,7 @@ module _ {M : Type 1} (𝓤 : URA M) (H : Heap 𝓤) (A : Atoms 𝓤) (W : Given
         assigns ! (of-opd ! (load ! (from ! (fld ! refl (stop !))) (look-in ! 6 (sub ! 0 refl (whole !))))) (from ! (stop !)) (init ! 2 refl (tt, wt .1 .0)) $
         assigns ! (of-opd ! (load ! (from ! (fld ! refl (stop !))) (look-in ! 6 (sub ! 1 refl (whole !))))) (from ! (stop !)) (init ! 0 refl (tt, wt .1 .1 .0)) $
         move ! (10 ∷ []) $ use1 W (raw (RecordAt 𝓤 H A mem run .pre (to, tt)) ⊛ ‵ (Own κ d)) goes $ split ! $
-        answers ! (fmOf 𝓤 H (W .laws) 𝓣) record-at.ended (record-at.clauses 𝓤 H A mem run) known to tt (λ r. read-said r ≡ found) (λ r ws. id⊢ 𝓤 _)
+        answers ! (fmOf 𝓤 H (W .laws) 𝓣) record-at.ended (record-at.clauses 𝓤 H A mem run) known to tt (λ r. record-said r ≡ found) (λ r ws. id⊢ 𝓤 _)
         (and-then ! (load ! (from ! (stop !)) (look ! 4 refl)) (and-then ! (load ! (from ! (stop !)) (look ! 2 refl)) (and-then ! (load ! (from ! (stop !)) (look ! 6 refl)) (no-more !)))) (λ u r e is.
         -- [the result; the token; what the reader owns; _4; …; _3; …; _2; …; _1; …; room for _0; …]
         land ! (from ! (stop !)) (init ! 11 refl (EL.lawful R.the-type R′.the-laws 𝓤 H A W tt .typed r _ is .0)) $

@@ -38,7 +38,7 @@ use denote.Triple.Spec.{tripleOf}
 use denote.Triple.Table.{cited}
 use denote.Triple.Walked.{says, Stays, stay-none, stay-none-slice, walkOf, goes-none, goes-none-slice, ends-at}
 use denote.Exit.{yes}
-use Rattle.network.specs.Check.{opened, read-said, read-at, read}
+use Rattle.network.specs.Check.{opened, record-said, read-at, read}
 use Rattle.reader.specs.Reader.{OpenedOn}
 use Rattle.network.specs.declared.checker.Opened.{Opened}
 use Rattle.reader.specs.declared.Reader.{Reader}
@@ -129,7 +129,7 @@ module _ {M : Type 1} (𝓤 : URA M) (H : Heap 𝓤) (A : Atoms 𝓤) (W : Given
   together : (o : Opened) (r : Read) (v w : Val) → ent 𝓤 (sem 𝓤 H A (fsep (O.the-row .own o (v ∷ [])) (fsep (R.the-row .own r (w ∷ [])) ftrue))) (sem 𝓤 H A (B.the-row .own (both o r) (pair v w ∷ [])))
   together o r v w = makes 𝓤 H A W (rows (B.the-type .parts)) (owns (rows (B.the-type .parts)) (intos (B.the-type .parts) (o, (r, tt)))) (v ∷ [], (w ∷ [], tt))
 
-  exits : (o : Opened) (r : Read) (v w : Val) → (o ≡ opened (now s)) × (read-said r ≡ read (now s) k)
+  exits : (o : Opened) (r : Read) (v w : Val) → (o ≡ opened (now s)) × (record-said r ≡ read (now s) k)
       → ent 𝓤 (⋆ 𝓤 H A (‵ (R.the-row .own r (w ∷ [])) ∷ (‵ (flft κ q) ⊛ ‵ ftrue) ∷ ‵ (O.the-row .own o (v ∷ [])) ∷ ‵ (Lent κ s) ∷ [])) (Post (pair v w))
   exits o r v w e =
       qed W (‵ (R.the-row .own r (w ∷ [])) ∷ (‵ (flft κ q) ⊛ ‵ ftrue) ∷ ‵ (O.the-row .own o (v ∷ [])) ∷ ‵ (Lent κ s) ∷ []) ∵
@@ -155,7 +155,7 @@ module _ {M : Type 1} (𝓤 : URA M) (H : Heap 𝓤) (A : Atoms 𝓤) (W : Given
         land ! (from ! (stop !)) (init ! 10 refl (LL.lawful O.the-type O′.the-laws 𝓤 H A W .typed o _ is-o .0)) $
         assigns ! (of-opd ! (load ! (from ! (stop !)) (look ! 12 refl))) (from ! (stop !)) (init ! 4 refl (typed 𝓤 H A W (record { mir = erased; lft = κ }) d u is)) $
         move ! (2 ∷ 1 ∷ []) $ use2 W (raw (Record 𝓤 H A mem run .pre (to-record d u, tt))) (goes-record d u) $
-        answers ! (fmOf 𝓤 H (W .laws) 𝓣) block.ended (block.clauses 𝓤 H A mem run) known-record (to-record d u) tt (λ r. read-said r ≡ read-at (now (d .words)) (d .found) k) (λ r ws. id⊢ 𝓤 _)
+        answers ! (fmOf 𝓤 H (W .laws) 𝓣) block.ended (block.clauses 𝓤 H A mem run) known-record (to-record d u) tt (λ r. record-said r ≡ read-at (now (d .words)) (d .found) k) (λ r ws. id⊢ 𝓤 _)
         (and-then ! (load ! (from ! (stop !)) (look ! 3 refl)) (and-then ! (load ! (from ! (stop !)) (look ! 13 refl)) (no-more !))) (λ w r e′ is-r.
         -- [what the record owns; the token; what the opening owns; what the words own; _7; …]
         land ! (from ! (stop !)) (init ! 6 refl (EL.lawful R.the-type R′.the-laws 𝓤 H A W tt .typed r _ is-r .0)) $

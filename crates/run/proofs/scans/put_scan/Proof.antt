@@ -10,7 +10,7 @@ use lib.ListN.{length}
 use Rattle.record.specs.declared.Block.{Block}
 use Rattle.network.specs.declared.checker.Opened.{Opened}
 use Rattle.network.specs.Network.{block-count, block-of}
-use Rattle.network.specs.Check.{network-in, opened, checked, read-said}
+use Rattle.network.specs.Check.{network-in, opened, checked, record-said}
 use Rattle.network.proofs.Values.{accepted-good}
 use Rattle.scan.proofs.Scanning.{is-next, is-read}
 use Rattle.lines.specs.Text.{longest-line}
@@ -44,7 +44,7 @@ next-kind c =
     let v = c .before .before .before .before .loop .inv in
     let x = c .before .before .before .before .before .before .before .before .before .before .args in
     ap (λ (b : Block). b .kind)
-    (is-next (now (x .words)) (x .o) (c .before .before .before .before .loop .k) (v .0) (v .1) (below (c .before .before .before)) (sym (c .before .before .record-at .ensures) ∙ ap read-said (c .block .given .1)))
+    (is-next (now (x .words)) (x .o) (c .before .before .before .before .loop .k) (v .0) (v .1) (below (c .before .before .before)) (sym (c .before .before .record-at .ensures) ∙ ap record-said (c .block .given .1)))
 
 count-requires : tie.Need-count-requires Inv-loop μ-loop
 count-requires c κs = search needs
@@ -86,7 +86,7 @@ returns : tie.Need-returns Inv-loop μ-loop
 returns c =
     let v = c .before .before .before .before .loop .inv in
     let x = c .before .before .before .before .before .before .before .before .before .before .args in
-    absurd (is-read (now (x .words)) (x .o) (c .before .before .before .before .loop .k) (v .0) (v .1) (below (c .before .before .before)) (sym (c .before .before .record-at .ensures) ∙ ap read-said (c .enum-told .given .1)))
+    absurd (is-read (now (x .words)) (x .o) (c .before .before .before .before .loop .k) (v .0) (v .1) (below (c .before .before .before)) (sym (c .before .before .record-at .ensures) ∙ ap record-said (c .enum-told .given .1)))
 
 add-entry : tie.Need-add-entry Inv-loop μ-loop
 add-entry c = omega (arith, below (c .before .before .before .before), c .before .before .before .before .before .loop .inv .3, c .before .before .before .before .before .before .before .before .before .before)

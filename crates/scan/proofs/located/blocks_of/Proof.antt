@@ -6,7 +6,7 @@ use borrow.Author.Needs.{needs}
 use denote.Ref.{now}
 use lib.ListN.{length, length-set}
 use Rattle.network.specs.Network.{block-count}
-use Rattle.network.specs.Check.{network-in, read-said}
+use Rattle.network.specs.Check.{network-in, record-said}
 use Rattle.network.proofs.Values.{accepted-good}
 use Rattle.scan.specs.Inner.{Legible}
 use Rattle.scan.proofs.Scanning.{sizes-are, count-is, is-next, is-read}
@@ -58,7 +58,7 @@ returns c =
     let v = inside .before .loop .inv in
     let x = inside .before .before .before .before .before .args in
     absurd (is-read (now (x .words)) (x .o) (inside .before .loop .k) (v .0 .opens) (v .0 .accepted) (below inside)
-    (sym (c .before .before .record-at .ensures) ∙ ap read-said (c .enum-told .given .1)))
+    (sym (c .before .before .record-at .ensures) ∙ ap record-said (c .enum-told .given .1)))
 
 start-requires : tie.Need-start-requires Inv-loop μ-loop
 start-requires c κs = search needs
@@ -85,7 +85,7 @@ loop-again c =
     let v = inside .before .loop .inv in
     let x = inside .before .before .before .before .before .args in
     let k = inside .before .loop .k in
-    let block = is-next (now (x .words)) (x .o) k (v .0 .opens) (v .0 .accepted) (below inside) (sym (read .before .before .record-at .ensures) ∙ ap read-said (read .block .given .1)) in (
+    let block = is-next (now (x .words)) (x .o) k (v .0 .opens) (v .0 .accepted) (below inside) (sym (read .before .before .record-at .ensures) ∙ ap record-said (read .block .given .1)) in (
       v .0,
       v .1,
       v .2,
