@@ -157,7 +157,7 @@ module _ (ws : List ℕ) (f : File) (at : ℕ) where
       let to : at + (1 + table-words f) ≡ at + 1 + table-words f = omega arith in
       ap (λ (k : ℕ). drop k (drop at ws)) image-long ∙ sym (rest-from ws at (1 + table-words f)) ∙ ap (λ (k : ℕ). drop k ws) to
 
-  both-is : earned after-network f (drop at ws) ≡ section-earns image-section f (drop at ws) ++ (section-earns run-section with-image (drop (at + 1 + table-words f) ws) ++ [])
+  pub both-is : earned after-network f (drop at ws) ≡ section-earns image-section f (drop at ws) ++ (section-earns run-section with-image (drop (at + 1 + table-words f) ws) ++ [])
   unfolding earned
   both-is = ap (λ (l : List ℕ). section-earns image-section f (drop at ws) ++ (section-earns run-section with-image l ++ [])) rest-is
 

@@ -3,4 +3,5 @@ pub mod Accepted
 pub mod Determined
 pub mod Files
 pub mod Kept
+pub mod Longer
 pub mod Starts

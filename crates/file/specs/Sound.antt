@@ -1,5 +1,5 @@
 -- What an accepted file is, said without the checker's order. Assumes nothing.
-use Prim.Native.Nat.{ℕ, _≤_}
+use Prim.Native.Nat.{ℕ, _+_, _≤_}
 use mathlib.Core.Path.{_≡_}
 use mathlib.Core.Bool.{Bool, false}
 use mathlib.Core.List.{List, [], _∷_, _++_}
@@ -41,3 +41,12 @@ most-words = 12696
 
 abbrev pub NoLonger : Type 0
 NoLonger = (ws : List ℕ) (odd : Bool) → SoundFile ws odd → length ws ≤ most-words
+
+-- a file that is too long is refused by its front: of more words than the longest file has, those and one more decide
+abbrev pub LongerSame : Type 0
+LongerSame =
+    (ws : List ℕ) (odd : Bool) → most-words + 1 ≤ length ws → file-checked ws odd ≡ file-checked (take (most-words + 1) ws) false
+
+-- and no place is past the word after the longest file
+abbrev pub PlaceLow : Type 0
+PlaceLow = (ws : List ℕ) (odd : Bool) → file-checked ws odd .place ≤ most-words + 1
