@@ -3,19 +3,18 @@ use mathlib.Core.Path.{_≡_, refl, sym, ap, ap₂, _∙_}
 use mathlib.Core.Bool.{Bool, true, false, cond}
 use mathlib.Core.List.{List, [], _∷_, _++_, append-assoc}
 use Prim.Native.Nat.{ℕ, suc, _+_, _≤_, _<_}
-use native.Mathlib.Numerals.{add-one}
 use native.Mathlib.Omega.{arith}
 use borrow.Author.Tests.{eq-eqb, ne-eqb, le-leb, lt-leb}
 use lib.Dec.{leb, eqb}
 use lib.ListN.{length, take, drop, set, getD, length-append, length-drop}
 use lib.Seq.{set-split, take-suc, take-at, drop-at, drop-drop, length-take-le}
 use Rattle.verdict.specs.declared.Verdict.{Verdict}
-use Rattle.verdict.specs.Verdict.{verdict, done, then}
+use Rattle.verdict.specs.Verdict.{verdict, done}
 use Rattle.verdict.specs.Promise.{Leaves}
 use Rattle.section.proofs.Walk.{then-first, then-next, then-zero}
 use Rattle.table.specs.Table.{total}
 use Rattle.network.specs.Network.{Network}
-use Rattle.network.specs.Check.{network-in, network-end}
+use Rattle.network.specs.Check.{network-in}
 use Rattle.file.specs.declared.checker.OpenedFile.{OpenedFile}
 use Rattle.file.specs.File.{table-words, file-in, file-checked, opened-file-with, opened-file}
 use Rattle.file.specs.Start.{start-verdict, started, start-table, ImageFirst}

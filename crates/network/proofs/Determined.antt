@@ -1,4 +1,5 @@
--- Two results that a public function's contract allows are equal: each contract is one equation for the answer. Assumes nothing.
+-- Two results that a public function's contract allows are equal: each contract is one equation for the answer, or for what it says,
+-- and two answers that say the same are the same. Assumes nothing.
 use mathlib.Core.Path.{sym, _∙_}
 use Rattle.verdict.specs.Promise.{Decides}
 use Rattle.network.proofs.ReadAt.{said-once}

@@ -1,11 +1,10 @@
 -- `file::starting::put_image` meets its contract. The loop keeps that the first i words are put. Assumes nothing.
-use borrow.Author.Needs.{needs}
 use native.Mathlib.Omega.{arith}
 use mathlib.Core.Path.{_≡_, refl, sym, ap, ap₂, _∙_}
 use mathlib.Core.List.{List, _++_}
 use Prim.Native.Nat.{ℕ, _+_, _-_, _≤_}
 use denote.Ref.{now}
-use lib.ListN.{length, take, drop, set, getD, length-drop, length-set}
+use lib.ListN.{length, take, drop, set, length-drop}
 use lib.Seq.{getD-drop}
 use Rattle.file.proofs.Starts.{put-long, put-next}
 use Rattle.file.proofs.starting.put_image.Statement.{statement}
