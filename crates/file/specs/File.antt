@@ -7,6 +7,7 @@ use mathlib.Core.Bool.{Bool}
 use mathlib.Core.List.{List, [], _∷_, _++_, map}
 use lib.Dec.{eqb}
 use lib.ListN.{take, replicate}
+use Rattle.verdict.specs.Lists.{Words, Table}
 use Rattle.verdict.specs.declared.Verdict.{Verdict}
 use Rattle.file.specs.declared.checker.OpenedFile.{OpenedFile}
 use Rattle.section.specs.Walk.{first-of}
@@ -19,7 +20,7 @@ use Rattle.network.specs.Check.{sections, no-network, network-end, leading}
 -- a file as a value: its network, the words of its image, and the scans of its run
 pub record File : Type 0 where
   pub network : Network
-  pub image : List ℕ
+  pub image : Table
   pub run : ℕ
 
 -- how many words the table of its areas has
@@ -65,14 +66,14 @@ abbrev pub no-file : File
 no-file = record { network = no-network; image = []; run = 0 }
 
 -- the file that the words spell, whatever they earn, and the verdict on them
-unfoldable pub file-in : List ℕ → File
+unfoldable pub file-in : Words → File
 file-in ws = meaning file-sections no-file ws
 
-unfoldable pub file-checked : List ℕ → Bool → Verdict
+unfoldable pub file-checked : Words → Bool → Verdict
 file-checked ws odd = whole file-sections no-file ws odd
 
 -- a verdict with what the words spell
-abbrev pub opened-file-with : List ℕ → Verdict → OpenedFile
+abbrev pub opened-file-with : Words → Verdict → OpenedFile
 opened-file-with ws v = record {
   verdict = v;
   network = leading ws;
@@ -81,7 +82,7 @@ opened-file-with ws v = record {
   scans = file-in ws .run;
 }
 
-abbrev pub opened-file : List ℕ → Bool → OpenedFile
+abbrev pub opened-file : Words → Bool → OpenedFile
 opened-file ws odd = opened-file-with ws (file-checked ws odd)
 
 -- ---- what the code may rely on, whatever the words are: a network ends at 6 + 15 * 65535 at the latest, and four areas have

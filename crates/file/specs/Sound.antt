@@ -2,9 +2,10 @@
 use Prim.Native.Nat.{ℕ, _+_, _≤_}
 use mathlib.Core.Path.{_≡_}
 use mathlib.Core.Bool.{Bool, false}
-use mathlib.Core.List.{List, [], _∷_, _++_}
+use mathlib.Core.List.{[], _∷_, _++_}
 use mathlib.Core.Logic.{_↔_}
 use lib.ListN.{length, take}
+use Rattle.verdict.specs.Lists.{Words}
 use Rattle.network.specs.Network.{words-of}
 use Rattle.network.specs.Check.{network-end, leading, opened}
 use Rattle.network.specs.Sound.{GoodNetwork}
@@ -18,35 +19,35 @@ pub record GoodFile (f : File) : Type 0 where
   pub run-high : f .run ≤ most-scans
 
 -- a file's words: those of its network, then the image and the run, each after its count
-unfoldable pub file-words : File → List ℕ
+unfoldable pub file-words : File → Words
 file-words f = words-of (f .network) ++ table-words f ∷ f .image ++ 1 ∷ f .run ∷ []
 
 -- words that are those of the file that they spell, which is good, and no odd byte after them
-pub record SoundFile (ws : List ℕ) (odd : Bool) : Type 0 where
+pub record SoundFile (ws : Words) (odd : Bool) : Type 0 where
   pub file : GoodFile (file-in ws)
   pub words : file-words (file-in ws) ≡ ws
   pub even : odd ≡ false
 
 -- a file is accepted exactly when it is sound
 abbrev pub AcceptsFiles : Type 0
-AcceptsFiles = (ws : List ℕ) (odd : Bool) → (file-checked ws odd .number ≡ 0) ↔ SoundFile ws odd
+AcceptsFiles = (ws : Words) (odd : Bool) → (file-checked ws odd .number ≡ 0) ↔ SoundFile ws odd
 
 -- the words of an accepted file up to where its network ends are a network, which opens as it does at the front of the file
 abbrev pub FrontOpens : Type 0
-FrontOpens = (ws : List ℕ) (odd : Bool) → SoundFile ws odd → opened (take (network-end ws) ws) ≡ leading ws
+FrontOpens = (ws : Words) (odd : Bool) → SoundFile ws odd → opened (take (network-end ws) ws) ≡ leading ws
 
 -- the words of the longest file: areas and blocks, the image's count, the greatest image, the run
 abbrev pub most-words : ℕ
 most-words = 12696
 
 abbrev pub NoLonger : Type 0
-NoLonger = (ws : List ℕ) (odd : Bool) → SoundFile ws odd → length ws ≤ most-words
+NoLonger = (ws : Words) (odd : Bool) → SoundFile ws odd → length ws ≤ most-words
 
 -- a file that is too long is refused by its front: of more words than the longest file has, those and one more decide
 abbrev pub LongerSame : Type 0
 LongerSame =
-    (ws : List ℕ) (odd : Bool) → most-words + 1 ≤ length ws → file-checked ws odd ≡ file-checked (take (most-words + 1) ws) false
+    (ws : Words) (odd : Bool) → most-words + 1 ≤ length ws → file-checked ws odd ≡ file-checked (take (most-words + 1) ws) false
 
 -- and no place is past the word after the longest file
 abbrev pub PlaceLow : Type 0
-PlaceLow = (ws : List ℕ) (odd : Bool) → file-checked ws odd .place ≤ most-words + 1
+PlaceLow = (ws : Words) (odd : Bool) → file-checked ws odd .place ≤ most-words + 1

@@ -20,9 +20,9 @@ use Rattle.file.specs.File.{table-words, file-in, file-checked, opened-file-wit
 use Rattle.file.specs.Sound.{SoundFile}
 use Rattle.file.specs.Start.{start-verdict, started, start-table}
 use Rattle.file.proofs.Accepted.{accepts-files, accepted-done}
+use Rattle.file.proofs.Longer.{place-low}
 use Rattle.file.proofs.Starts.{image-first}
 use Rattle.lines.specs.Text.{longest-line, refusal-line, place-after, laid}
-use Rattle.lines.proofs.Laying.{laid-put}
 use Rattle.run.specs.Bench.{file-text, words-text, bench-text}
 use Rattle.run.specs.Calls.{Pages, most-table, Printed, Begins, CallsPrint}
 use Rattle.run.specs.Calls.Printed.{refused, ran}
@@ -37,10 +37,13 @@ module _ (bytes words : List ℕ) (enough : words-count bytes ≤ length words) 
   unfolding to-words
   answer-is = h .answers ∙ ap (λ (a : Bool). cond a (converted done (words-count bytes) (odd-byte bytes)) (converted (verdict 12 0) 0 false)) fits
 
+  pub count-is : c .count ≡ words-count bytes
+  count-is = ap (λ (x : Converted). x .count) answer-is
+
   words-are : take (c .count) left ≡ words-in bytes
   unfolding filled
   words-are =
-      ap₂ take (ap (λ (x : Converted). x .count) answer-is) (h .leaves ∙ ap (λ (a : Bool). cond a (words-in bytes ++ drop (words-count bytes) words) words) fits)
+      ap₂ take count-is (h .leaves ∙ ap (λ (a : Bool). cond a (words-in bytes ++ drop (words-count bytes) words) words) fits)
       ∙ take-at (words-in bytes) (drop (words-count bytes) words) (words-count bytes) (words-length bytes (words-count bytes) 0)
 
   odd-is : c .odd ≡ odd-byte bytes
@@ -84,6 +87,31 @@ module _ (ws : List ℕ) (odd : Bool) (table : List ℕ) (room : most-table ≤ 
         ap₂ take (ap (λ (x : OpenedFile). x .words) (h .answers)) (h .leaves) ∙ image-first ws odd table (ap (λ (v : Verdict). v .number) as-checked ∙ zero) in
         pages-are-printed ws (ap (λ (b : Bool). file-checked ws b .number) (sym even) ∙ zero) out (subst (λ (t : List ℕ). Pages ws t 1 out) image p)
         ∙ sym (ap (λ (a : Bool). cond a (file-text (file-in ws)) (refusal-line (file-checked ws odd))) (eq-eqb (file-checked ws odd .number) 0 zero))
+
+    -- ---- what the program may rely on
+
+    -- the place of a refusal is a word
+    pub place-small : o .verdict .place ≤ 65535
+    place-small = omega (arith, ap (λ (v : Verdict). v .place) verdict-is, place-low ws odd)
+
+    module _ (fine : o .verdict .number ≡ 0) where
+      zero-number : file-checked ws odd .number ≡ 0
+      zero-number = sym (ap (λ (v : Verdict). v .number) verdict-is) ∙ fine
+
+      -- the file is accepted, also without an odd byte; its table fits
+      pub accepted-even : file-checked ws false .number ≡ 0
+      accepted-even = ap (λ (b : Bool). file-checked ws b .number) (sym (accepts-files ws odd .0 zero-number .even)) ∙ zero-number
+
+      pub words-are-its : o .words ≡ table-words (file-in ws)
+      words-are-its = ap (λ (x : OpenedFile). x .words) (h .answers)
+
+      pub scans-are-its : o .scans ≡ file-in ws .run
+      scans-are-its = ap (λ (x : OpenedFile). x .scans) (h .answers)
+
+      pub table-fits : o .words ≤ length table
+      table-fits =
+          let z = accepts-files ws odd .0 zero-number .file .network .areas in
+          omega (arith, words-are-its, room, z .coils, z .discretes, z .inputs, z .holding)
 
 pub calls-print : CallsPrint
 calls-print bytes words table c left o begun b out p =

@@ -9,7 +9,7 @@ use native.Mathlib.Nat.{le-div-iff-mul-le}
 use native.Mathlib.Omega.{arith}
 use borrow.Author.Tests.{lt-ltb, le-ltb, le-leb, lt-leb, leb-true, eq-eqb, ne-eqb, eqb-true, eqb-false}
 use lib.Dec.{leb, eqb}
-use lib.ListN.{length, take, drop}
+use lib.ListN.{length, take, drop, length-append, length-drop}
 use lib.Seq.{take-append-seam}
 use Rattle.verdict.specs.declared.Verdict.{Verdict}
 use Rattle.verdict.specs.Promise.{LeavesTwo}
@@ -195,3 +195,31 @@ never-stuck ws fine t long from low high room l = (ap (λ (v : Verdict). v .numb
 
     goes-on : run-went ws t from room ≡ went done (from + m) (length (page ws t from room))
     goes-on = ap (λ (v : Verdict). cond (eqb (v .number) 0) (went done (from + m) (length (page ws t from room))) (went v from 0)) taken
+
+-- ---- what the program may rely on
+
+-- with room for every block's line of a scan, a call goes further
+pub goes-further : (ws : List ℕ) → file-checked ws false .number ≡ 0 → (t : List ℕ) → length t ≡ table-words (file-in ws) → (from : ℕ) → 1 ≤ from → from ≤ file-in ws .run
+    → (room : ℕ) → 4160 ≤ room → {r : Went} → r ≡ run-went ws t from room → from < r .next
+goes-further ws fine t long from low high room l e =
+    subst (λ (w : Went). from < w .next) (sym e) (never-stuck ws fine t long from low high room (omega (arith, sound ws fine .file .network .few)) .1)
+
+-- what a call puts is in its buffer
+pub bytes-fit : (ws t : List ℕ) (from : ℕ) (text : List ℕ) {r : Went} {after : List ℕ} → r ≡ run-went ws t from (length text) → after ≡ run-text ws t from text
+    → length after ≡ length text → r .bytes ≤ length text
+unfolding run-went run-text
+bytes-fit ws t from text {r} {after} e put long = go (eqb (run-verdict ws (length t) from (length text) .number) 0) refl
+  where
+    lines : List ℕ
+    lines = page ws t from (length text)
+
+    go : (a : Bool) → eqb (run-verdict ws (length t) from (length text) .number) 0 ≡ a → r .bytes ≤ length text
+    go true q =
+        let bytes : r .bytes ≡ length lines =
+        ap (λ (w : Went). w .bytes) (e ∙ ap (λ (a : Bool). cond a (went done (from + many (file-in ws) from (length text)) (length lines)) (went (run-verdict ws (length t) from (length text)) from 0)) q) in
+        let all : after ≡ lines ++ drop (length lines) text = put ∙ ap (λ (a : Bool). cond a (lines ++ drop (length lines) text) text) q in
+        omega (arith, bytes, ap length all, length-append lines (drop (length lines) text), length-drop (length lines) text, long)
+    go false q =
+        let bytes : r .bytes ≡ 0 =
+        ap (λ (w : Went). w .bytes) (e ∙ ap (λ (a : Bool). cond a (went done (from + many (file-in ws) from (length text)) (length lines)) (went (run-verdict ws (length t) from (length text)) from 0)) q) in
+        omega (arith, bytes)

@@ -2,7 +2,7 @@
 -- alone, and a buffer that is lent may have held anything. Assumes nothing.
 use Prim.Native.Nat.{ℕ, _+_, _*_, _≤_, _<_}
 use mathlib.Core.Path.{_≡_}
-use mathlib.Core.Bool.{Bool, false}
+use mathlib.Core.Bool.{false}
 use mathlib.Core.List.{[], _++_}
 use lib.ListN.{length, take}
 use Rattle.verdict.specs.Lists.{Words, Table, Bytes, Text}
@@ -13,6 +13,7 @@ use Rattle.table.specs.Table.{most-coils, most-discretes, most-inputs, most-hol
 use Rattle.network.specs.Network.{block-count}
 use Rattle.file.specs.declared.checker.OpenedFile.{OpenedFile}
 use Rattle.file.specs.File.{table-words, file-in, file-checked}
+use Rattle.file.specs.Sound.{most-words}
 use Rattle.file.specs.Start.{started, start-table}
 use Rattle.lines.specs.Text.{longest-line, refusal-line, place-after, laid}
 use Rattle.run.specs.declared.Went.{Went}
@@ -65,3 +66,10 @@ abbrev pub CallsPrint : Type 0
 CallsPrint =
     (bytes : Bytes) (words : Words) (table : Table) (c : Converted) (words-left : Words) (o : OpenedFile) (begun : Table) →
     Begins bytes words table c words-left o begun → (out : Text) → Printed (take (c .count) words-left) o begun out → out ≡ bench-text bytes
+
+-- ---- the bytes that it reads: no more than those of the longest file and of one word more, which are enough
+abbrev pub most-bytes : ℕ
+most-bytes = 2 * (most-words + 1)
+
+abbrev pub FrontIsEnough : Type 0
+FrontIsEnough = (bytes : Bytes) → bench-text (take most-bytes bytes) ≡ bench-text bytes
