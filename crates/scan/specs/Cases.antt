@@ -71,26 +71,26 @@ abbrev registers : ℕ → ℕ → ℕ → ℕ → Table
 registers a b c d = a ∷ b ∷ c ∷ d ∷ []
 
 -- the kinds by their numbers
-abbrev and : ℕ
-and = 1
+abbrev AND : ℕ
+AND = 1
 
-abbrev or : ℕ
-or = 2
+abbrev OR : ℕ
+OR = 2
 
-abbrev exclusive : ℕ
-exclusive = 3
+abbrev XOR : ℕ
+XOR = 3
 
-abbrev complement : ℕ
-complement = 4
+abbrev COMP : ℕ
+COMP = 4
 
-abbrev compare : ℕ
-compare = 5
+abbrev CMPR : ℕ
+CMPR = 5
 
-abbrev modify : ℕ
-modify = 6
+abbrev MBIT : ℕ
+MBIT = 6
 
-abbrev rotate : ℕ
-rotate = 8
+abbrev BROT : ℕ
+BROT = 8
 
 -- the top output is on in every case; of the middle and the bottom output it is said
 abbrev on-and : Bool → Bool → Outputs
@@ -99,21 +99,21 @@ on-and middle bottom = shows true middle bottom
 -- ---- the table; P10 has two rows, with wrap and without it
 abbrev pub cases : List Case
 cases =
-    case "P1" (usual and 1 top-on) (registers 0x3000 0x5000 0 0) (registers 0x3000 0x1000 0 0) (on-and false false)
-    ∷ case "P2" (usual or 1 top-on) (registers 0x3000 0x5000 0 0) (registers 0x3000 0x7000 0 0) (on-and false false)
-    ∷ case "P3" (usual exclusive 1 top-on) (registers 0x3000 0x5000 0 0) (registers 0x3000 0x6000 0 0) (on-and false false)
-    ∷ case "P4" (usual complement 1 top-on) (registers 0x3000 0x5000 0 0) (registers 0x3000 0xcfff 0 0) (on-and false false)
-    ∷ case "P5" (usual compare 1 top-on) (registers 0x8001 0 0x0000 0) (registers 0x8001 1 0x0000 0) (on-and true true)
-    ∷ case "P6" (usual compare 1 top-on) (registers 0x8001 1 0x0000 0) (registers 0x8001 16 0x0000 0) (on-and true true)
-    ∷ case "P7" (usual compare 1 top-on) (registers 0x8001 16 0x0000 0) (registers 0x8001 1 0x0000 0) (on-and true true)
-    ∷ case "P8" (usual compare 1 top-on) (registers 0x0000 0 0x4000 0) (registers 0x0000 2 0x4000 0) (on-and true false)
-    ∷ case "P9" (usual compare 1 top-on) (registers 0x0000 2 0x4000 0) (registers 0x0000 16 0x4000 0) (on-and false false)
-    ∷ case "P10" (usual rotate 1 top-and-bottom) (registers 0x0001 0x5555 0 0) (registers 0x0001 0x8000 0 0) (on-and true false)
-    ∷ case "P10, without wrap" (usual rotate 1 top-on) (registers 0x0001 0x5555 0 0) (registers 0x0001 0x0000 0 0) (on-and true false)
-    ∷ case "P11" (over-registers (block rotate 2 1 3 all-on)) (registers 0x8000 0x0001 0x5555 0x5555) (registers 0x8000 0x0001 0x0000 0x0003) (on-and true false)
-    ∷ case "P12" (usual complement 2 top-on) (registers 0x0000 0x0f0f 0x1234 0) (registers 0x0000 0xffff 0xf0f0 0) (on-and false false)
-    ∷ case "P13" (usual modify 1 all-on) (registers 16 0x0000 0 0) (registers 1 0x0001 0 0) (on-and true false)
-    ∷ case "P14" (usual modify 1 all-on) (registers 17 0x0000 0 0) (registers 17 0x0000 0 0) (on-and false true)
+    case "P1" (usual AND 1 top-on) (registers 0x3000 0x5000 0 0) (registers 0x3000 0x1000 0 0) (on-and false false)
+    ∷ case "P2" (usual OR 1 top-on) (registers 0x3000 0x5000 0 0) (registers 0x3000 0x7000 0 0) (on-and false false)
+    ∷ case "P3" (usual XOR 1 top-on) (registers 0x3000 0x5000 0 0) (registers 0x3000 0x6000 0 0) (on-and false false)
+    ∷ case "P4" (usual COMP 1 top-on) (registers 0x3000 0x5000 0 0) (registers 0x3000 0xcfff 0 0) (on-and false false)
+    ∷ case "P5" (usual CMPR 1 top-on) (registers 0x8001 0 0x0000 0) (registers 0x8001 1 0x0000 0) (on-and true true)
+    ∷ case "P6" (usual CMPR 1 top-on) (registers 0x8001 1 0x0000 0) (registers 0x8001 16 0x0000 0) (on-and true true)
+    ∷ case "P7" (usual CMPR 1 top-on) (registers 0x8001 16 0x0000 0) (registers 0x8001 1 0x0000 0) (on-and true true)
+    ∷ case "P8" (usual CMPR 1 top-on) (registers 0x0000 0 0x4000 0) (registers 0x0000 2 0x4000 0) (on-and true false)
+    ∷ case "P9" (usual CMPR 1 top-on) (registers 0x0000 2 0x4000 0) (registers 0x0000 16 0x4000 0) (on-and false false)
+    ∷ case "P10" (usual BROT 1 top-and-bottom) (registers 0x0001 0x5555 0 0) (registers 0x0001 0x8000 0 0) (on-and true false)
+    ∷ case "P10, without wrap" (usual BROT 1 top-on) (registers 0x0001 0x5555 0 0) (registers 0x0001 0x0000 0 0) (on-and true false)
+    ∷ case "P11" (over-registers (block BROT 2 1 3 all-on)) (registers 0x8000 0x0001 0x5555 0x5555) (registers 0x8000 0x0001 0x0000 0x0003) (on-and true false)
+    ∷ case "P12" (usual COMP 2 top-on) (registers 0x0000 0x0f0f 0x1234 0) (registers 0x0000 0xffff 0xf0f0 0) (on-and false false)
+    ∷ case "P13" (usual MBIT 1 all-on) (registers 16 0x0000 0 0) (registers 1 0x0001 0 0) (on-and true false)
+    ∷ case "P14" (usual MBIT 1 all-on) (registers 17 0x0000 0 0) (registers 17 0x0000 0 0) (on-and false true)
     ∷ []
 
 -- ---- the statement
