@@ -7,6 +7,7 @@ use Rattle.lines.proofs.line_fits.Reads as line-fits-reads
 use Rattle.lines.proofs.put_line.Reads as put-line-reads
 use Rattle.lines.proofs.put_head.Reads as put-head-reads
 use Rattle.lines.proofs.put_end.Reads as put-end-reads
+use Rattle.lines.proofs.put_refusal.Reads as put-refusal-reads
 
 pub line-fits : Decides line-fits-reads.Post
 line-fits κs a x y s t p q = p ∙ sym q
@@ -19,3 +20,6 @@ put-head κs a x y s t p q = (p .answers ∙ sym (q .answers), p .leaves ∙ sym
 
 pub put-end : DecidesBoth put-end-reads.Post (λ κs s. now (s .0))
 put-end κs a x y s t p q = (p .answers ∙ sym (q .answers), p .leaves ∙ sym (q .leaves))
+
+pub put-refusal : DecidesBoth put-refusal-reads.Post (λ κs s. now (s .0))
+put-refusal κs a x y s t p q = (p .answers ∙ sym (q .answers), p .leaves ∙ sym (q .leaves))

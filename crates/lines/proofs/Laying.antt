@@ -10,11 +10,12 @@ use native.Mathlib.Omega.{arith}
 use borrow.Author.Tests.{le-leb, lt-leb, leb-true}
 use lib.Dec.{eqb}
 use lib.ListN.{length, take, drop, length-append}
+use Rattle.verdict.specs.declared.Verdict.{Verdict}
 use Rattle.verdict.specs.Promise.{Leaves}
 use Rattle.section.proofs.Walk.{le-of-not-lt}
 use Rattle.blocks.specs.declared.Outputs.{Outputs}
 use Rattle.blocks.specs.Kind.{has-pointer}
-use Rattle.lines.specs.Text.{places, digits, decimal, field, output-fields, pointer-field, line, head-line, end-line, first-line, last-line, longest-line, line-fits, place-after, laid}
+use Rattle.lines.specs.Text.{places, digits, decimal, field, output-fields, pointer-field, line, head-line, end-line, first-line, last-line, refusal-line, longest-line, line-fits, place-after, laid}
 use Rattle.lines.specs.Inner.{Put}
 use Rattle.lines.proofs.Putting.{places-1, places-2, places-3, places-4, places-5}
 
@@ -106,6 +107,23 @@ last-few next scans = go (eqb next (scans + 1))
         le-trans
         (both-few (101 ∷ 110 ∷ 100 ∷ 32 ∷ decimal scans) (10 ∷ []) {i = 9} {j = 1} (omega (arith, decimal-few scans)) (omega arith))
         (omega arith)
+    go false = omega arith
+
+pub refusal-few : (v : Verdict) → length (refusal-line v) ≤ longest-line
+unfolding refusal-line
+refusal-few v =
+    le-trans
+    (both-few (114 ∷ 101 ∷ 102 ∷ 117 ∷ 115 ∷ 101 ∷ 100 ∷ 32 ∷ field (v .number) ++ decimal (v .place)) (10 ∷ []) {i = 19} {j = 1}
+    (both-few (114 ∷ 101 ∷ 102 ∷ 117 ∷ 115 ∷ 101 ∷ 100 ∷ 32 ∷ field (v .number)) (decimal (v .place)) {i = 14} {j = 5} (omega (arith, field-few (v .number))) (decimal-few (v .place)))
+    (omega arith))
+    (omega arith)
+
+-- the place after a line at the front
+pub place-few : (bytes text : List ℕ) → length bytes ≤ longest-line → place-after 0 bytes text ≤ longest-line
+place-few bytes text l = go (line-fits (length text) 0)
+  where
+    go : (a : Bool) → cond a (0 + length bytes) 0 ≤ longest-line
+    go true = omega (arith, l)
     go false = omega arith
 
 -- ---- a line laid is bytes put, where there is room; where there is none, the buffer stays
