@@ -1,0 +1,2 @@
+-- What the program's own function asks for: a file whose run has begun.
+pub mod Begun
