@@ -72,6 +72,8 @@ file-in ws = meaning file-sections no-file ws
 unfoldable pub file-checked : Words → Bool → Verdict
 file-checked ws odd = whole file-sections no-file ws odd
 
+-- ---- for the calls
+
 -- a verdict with what the words spell
 abbrev pub opened-file-with : Words → Verdict → OpenedFile
 opened-file-with ws v = record {

@@ -64,6 +64,8 @@ unfoldable pub refusal-line : Verdict → Text
 unfolding decimal
 refusal-line v = 114 ∷ 101 ∷ 102 ∷ 117 ∷ 115 ∷ 101 ∷ 100 ∷ 32 ∷ field (v .number) ++ decimal (v .place) ++ 10 ∷ []
 
+-- ---- for the calls
+
 -- the first line stands before scan 1 alone, the last line after the last scan alone
 abbrev pub first-line : ℕ → ℕ → ℕ → Text
 first-line from count table = cond (eqb from 1) (head-line count table) []

@@ -17,6 +17,8 @@ combined Or s d = s || d
 combined Xor s d = xor s d
 combined Comp s d = not s
 
+-- ---- for the calls
+
 -- n words from s on are the source, n words from d on the destination, in a table of so many words
 abbrev pub combine-fault : ℕ → ℕ → ℕ → ℕ → ℕ
 combine-fault words s d n = fault longest-whole words n s d

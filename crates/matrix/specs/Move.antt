@@ -25,6 +25,8 @@ moved left wrap m n p =
     (cond (eqb p (16 * n)) (entering left wrap m n) (bit m (p + 1)))
     (cond (eqb p 1) (entering left wrap m n) (bit m (p - 1)))
 
+-- ---- for the calls
+
 -- n words from s on are the source, n words from d on the destination, in a table of so many words
 abbrev pub move-fault : ℕ → ℕ → ℕ → ℕ → ℕ
 move-fault words s d n = fault longest-whole words n s d

@@ -19,6 +19,8 @@ run t s n = take n (drop s t)
 abbrev pub placed : Table → ℕ → Matrix → Table
 placed t s m = take s t ++ m ++ drop (s + length m) t
 
+-- ---- for the calls
+
 -- what two runs of n words from a and from b on earn in a table of so many words, by a call that takes 1 to most words:
 -- the number of the refusal, or 0
 unfoldable pub fault : ℕ → ℕ → ℕ → ℕ → ℕ → ℕ

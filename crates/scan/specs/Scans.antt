@@ -30,11 +30,14 @@ pointers-after net (b ∷ bs) s = pointer-of net b (step net b s .table) ∷ poi
 abbrev pub scan-pointers : Network → Table → List ℕ
 scan-pointers net t = pointers-after net (net .blocks) (fresh t)
 
--- after so many scans of a table: the table; the outputs and the pointers of one scan after the other
+-- the table after so many scans of it
 unfoldable pub scans-table : Network → Table → ℕ → Table
 scans-table net t zero = t
 scans-table net t (suc j) = scans-table net (scanned net t .table) j
 
+-- ---- for the calls
+
+-- the outputs and the pointers of so many scans, one after the other
 unfoldable pub scans-outputs : Network → Table → ℕ → List ℕ
 scans-outputs net t zero = []
 scans-outputs net t (suc j) = map packed (scanned net t .outs) ++ scans-outputs net (scanned net t .table) j

@@ -25,6 +25,8 @@ first f i (suc k) = cond (f (suc i)) (some (suc i)) (first f (suc i) k)
 abbrev pub first-differing : Matrix → Matrix → ℕ → ℕ → Option ℕ
 first-differing a b n above = first (differing a b) above (16 * n - above)
 
+-- ---- for the calls
+
 -- what the search's answer says: done and a position or none, or a refusal (document 01, "Numbers returned")
 abbrev pub difference-said : Difference → Said (Option ℕ)
 difference-said (At p) = record { verdict = done; value = some (some p) }

@@ -68,6 +68,7 @@ pub(crate) fn small() {
     case(2, 1, 1, 2, 6, 4, 1, 0);
     case(2, 1, 1, 2, 6, 2, 1, 1);
     case(2, 1, 1, 2, 6, 9, 1, 1);
+    case(2, 1, 1, 2, 7, 4, 1, 2);
 }
 
 // The longest matrix, and a table that is a word short.

@@ -41,6 +41,7 @@ pub(crate) fn all() {
     steps(5, 0);
     steps(5, 15);
     steps(20, 17);
+    steps(4081, 4081);
     steps(4096, 4096);
     steps(65535, 65520);
 }

@@ -31,6 +31,8 @@ words-in bs = words-from bs 0 (words-count bs)
 abbrev pub odd-byte : Bytes → Bool
 odd-byte bs = eqb (length bs % 2) 1
 
+-- ---- for the calls
+
 -- the answer: 12 where the lent words are fewer than the bytes make
 abbrev pub converted : Verdict → ℕ → Bool → Converted
 converted v count odd = record { verdict = v; count = count; odd = odd }
