@@ -19,7 +19,7 @@ use Rattle.blocks.specs.declared.Power.{Power}
 use Rattle.blocks.specs.Kind.{Kind, kind-of}
 use Rattle.blocks.specs.Kind.Kind.{AND, OR, XOR, COMP, CMPR, MBIT, SENS, BROT}
 use Rattle.blocks.specs.View.{View, first-word, pointer-in}
-use Rattle.blocks.specs.Effect.{Change, Effect, zeroed, compare}
+use Rattle.blocks.specs.Effect.{Change, Effect, idle, zeroed, compare}
 use Rattle.blocks.specs.Effect.Change.{stays, becomes, puts}
 use Rattle.blocks.specs.Work.{pointer-node, one-word, effect-on, block-outputs, block-table}
 
@@ -102,6 +102,29 @@ ModifiesOneBit =
     let at = pointer-in net (b .top) t in
     bit (block-table net b t on) p
     ≡ cond (on .top && (leb 1 at && leb at (16 * b .n))) (cond (eqb p (16 * first-word net (b .middle) + at)) (on .middle) (bit t p)) (bit t p)
+
+-- what a reset alone makes of a pointer: CMPR's becomes 0 with power on middle, SENS's, if it is held, 1 with power on bottom
+abbrev pub reset-alone : Kind → Bool → Power → Option ℕ
+reset-alone AND held on = none
+reset-alone OR held on = none
+reset-alone XOR held on = none
+reset-alone COMP held on = none
+reset-alone CMPR held on = cond (on .middle) (some 0) none
+reset-alone MBIT held on = none
+reset-alone SENS held on = cond (held && on .bottom) (some 1) none
+reset-alone BROT held on = none
+
+-- with no power on top the other outputs are off and nothing is done but a reset
+abbrev pub WithoutPower : Type 0
+WithoutPower =
+    (net : Network) (earlier : ℕ) (b : Block) (t : Table) → Runs net earlier b t → (on : Power) → on .top ≡ false →
+    effect-on net b t on ≡ idle (reset-alone (kind-of (b .kind)) (eqb (pointer-node (kind-of (b .kind)) b .class) 4) on)
+
+-- only a pointer in class 4 is ever reset or increased: no other is written
+abbrev pub OnlyHeld : Type 0
+OnlyHeld =
+    (net : Network) (earlier : ℕ) (b : Block) (t : Table) → Runs net earlier b t → (on : Power) (x : ℕ) →
+    effect-on net b t on .pointer ≡ some x → pointer-node (kind-of (b .kind)) b .class ≡ 4
 
 -- discrete inputs and input registers never change: they stand after the coils and before the holding registers
 abbrev pub InputsStay : Type 0

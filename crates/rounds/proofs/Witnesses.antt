@@ -1,6 +1,6 @@
 -- Demand 3 at work, computed: networks that meet its premises, with what they report; and for each of its last premises a network
 -- that meets the others and breaks the conclusion. Assumes nothing.
-use mathlib.Core.Path.{_≡_, refl, ap, subst}
+use mathlib.Core.Path.{_≡_, refl, sym, ap, subst}
 use mathlib.Core.Bool.{xor}
 use mathlib.Core.List.{List, [], _∷_, flatMap}
 use mathlib.Core.Logic.{inr}
@@ -23,14 +23,23 @@ use Rattle.section.specs.Section.{section-earns, earned, meaning, judged-from, 
 use Rattle.network.specs.Check.{areas-section, block-faults, blocks-section, network-in, checked}
 use Rattle.network.specs.Sound.{GoodNetwork}
 use Rattle.network.proofs.Values.{accepted-good}
+use Rattle.blocks.specs.Kind.{kind-of}
 use Rattle.blocks.specs.Work.{block-outputs, block-table}
 use Rattle.inputs.specs.Input.{passes}
 use Rattle.scan.specs.Scan.{step, steps, scanned}
-use Rattle.rounds.specs.Demand3.{above, visit, source-in, matrix-in, register-in, source-found, matrix-found, after-step, report, SameBits, in-turn, how-often, nones, SourceLeavesOut, NothingElse, Premises, Scanning, round-at, RoundAt}
+use Rattle.scan.specs.Scans.{pointer-of, pointers-after, scans-table}
+use Rattle.lines.specs.Text.{places, digits, decimal, pointer-field, line, head-line, end-line, refusal-line}
+use Rattle.run.specs.Bench.{scan-lines, scans-lines, file-text, words-text, bench-text}
+use Rattle.scan.proofs.Repeating.{table-next}
+use Rattle.words.specs.Words.{words-from, words-in, odd-byte}
+use Rattle.file.specs.File.{File, image-section, run-section, file-in, file-checked}
+use Rattle.rounds.specs.Demand3.{above, visit, source-in, matrix-in, register-in, source-found, matrix-found, after-step, report, SameBits, in-turn, how-often, nones, SourceLeavesOut, NothingElse, Premises, Steady, Scanning, round-at, RoundAt}
 use Rattle.rounds.specs.Tests.{all-outside, Chain}
+use Rattle.rounds.specs.Bench.{text-says, ShowsRounds}
 use Rattle.rounds.proofs.Climb.{round-means}
 use Rattle.rounds.proofs.Chained.{chain-is-steady}
 use Rattle.rounds.proofs.Demand3.{demand-3}
+use Rattle.rounds.proofs.Printed.{demand-3-bench}
 
 -- ---- a network that its words spell, and that the checker takes
 unfoldable spelt : Network → Network × ℕ
@@ -207,3 +216,67 @@ own-coils-included = (
   },
   (λ r. let e : _≡_ {A = ℕ} 0 1 = round-means _ _ 1 _ r .none-reported in omega arith),
 )
+
+-- ---- document 01's example, for what the bench prints
+
+-- its bytes, and the file that they spell
+abbrev pub example-bytes : List ℕ
+example-bytes =
+    0 ∷ 4 ∷ 0 ∷ 0 ∷ 0 ∷ 0 ∷ 0 ∷ 0 ∷ 0 ∷ 3 ∷ 0 ∷ 1 ∷ 0 ∷ 5 ∷ 0 ∷ 1 ∷ 0 ∷ 4
+    ∷ 0 ∷ 1 ∷ 0 ∷ 4 ∷ 0 ∷ 2 ∷ 0 ∷ 1 ∷ 0 ∷ 0 ∷ 0 ∷ 0 ∷ 0 ∷ 0 ∷ 0 ∷ 0 ∷ 0 ∷ 0
+    ∷ 0 ∷ 0 ∷ 0 ∷ 0 ∷ 0 ∷ 0 ∷ 0 ∷ 3 ∷ 128 ∷ 1 ∷ 0 ∷ 0 ∷ 0 ∷ 0 ∷ 0 ∷ 1 ∷ 0 ∷ 4 ∷ []
+
+abbrev example-file : File
+example-file = record { network = bench; image = 32769 ∷ 0 ∷ 0 ∷ []; run = 4 }
+
+unfoldable read-as : List ℕ → File × ℕ
+unfolding words-from file-in file-checked whole judged-from earned meaning section-earns image-section run-section areas-section sizes-faults blocks-section records-earn
+    records-in block-faults seek faults reference-fault rule allows block-in
+read-as bytes = (file-in (words-in bytes), file-checked (words-in bytes) (odd-byte bytes) .number)
+
+example-is : read-as example-bytes ≡ (example-file, 0)
+unfolding read-as
+example-is = refl
+
+-- its compare meets the premises over its scans
+example-chain : Chain bench 0 4 (scans-table bench (32769 ∷ 0 ∷ 0 ∷ []))
+unfolding scans-table all-outside passes start-of spelt
+example-chain = record {
+  accepted = taken bench refl;
+  there = omega arith;
+  compares = refl;
+  first-size = refl;
+  goes-on = λ j l. table-next bench j (32769 ∷ 0 ∷ 0 ∷ []);
+  powered = λ j l. refl;
+  not-reset = λ j l. refl;
+  source-leaves-out = refl;
+  others-outside = refl;
+}
+
+-- so that its lines show rounds
+pub example-shows : ShowsRounds example-bytes 0
+unfolding read-as
+example-shows =
+    demand-3-bench example-bytes (ap (λ (p : File × ℕ). p .1) example-is) 0
+    (subst (λ (f : File). Steady (f .network) 0 (f .run) (scans-table (f .network) (f .image))) (sym (ap (λ (p : File × ℕ). p .0) example-is))
+    (chain-is-steady bench 0 4 (scans-table bench (32769 ∷ 0 ∷ 0 ∷ [])) example-chain .1))
+
+-- what document 01's six lines say of block 1, and of block 2, which is not there
+abbrev pub example-text : List ℕ
+example-text =
+    98 ∷ 108 ∷ 111 ∷ 99 ∷ 107 ∷ 115 ∷ 32 ∷ 49 ∷ 32 ∷ 119 ∷ 111 ∷ 114 ∷ 100 ∷ 115 ∷ 32 ∷ 51 ∷ 10 ∷ 49
+    ∷ 32 ∷ 49 ∷ 32 ∷ 49 ∷ 32 ∷ 49 ∷ 32 ∷ 49 ∷ 32 ∷ 49 ∷ 10 ∷ 50 ∷ 32 ∷ 49 ∷ 32 ∷ 49 ∷ 32 ∷ 49
+    ∷ 32 ∷ 49 ∷ 32 ∷ 49 ∷ 54 ∷ 10 ∷ 51 ∷ 32 ∷ 49 ∷ 32 ∷ 49 ∷ 32 ∷ 49 ∷ 32 ∷ 49 ∷ 32 ∷ 49 ∷ 10
+    ∷ 52 ∷ 32 ∷ 49 ∷ 32 ∷ 49 ∷ 32 ∷ 49 ∷ 32 ∷ 49 ∷ 32 ∷ 49 ∷ 54 ∷ 10 ∷ 101 ∷ 110 ∷ 100 ∷ 32 ∷ 52
+    ∷ 10 ∷ []
+
+pub example-says :
+    _≡_ {A = List (List (Option ℕ))} (text-says 1 example-text ∷ text-says 2 example-text ∷ []) ((some 1 ∷ some 16 ∷ some 1 ∷ some 16 ∷ []) ∷ [] ∷ [])
+unfolding text-says flatMap
+example-says = refl
+
+-- and these are the lines that its bytes print
+pub example-prints : bench-text example-bytes ≡ example-text
+unfolding read-as words-text file-text scans-lines scan-lines line pointer-field head-line end-line refusal-line decimal digits places
+    scans-table pointers-after pointer-of kind-of step steps passes block-table block-outputs first reset in-range start-of matrix-of value bit xor
+example-prints = refl
