@@ -43,57 +43,46 @@ pub as-read : {net : Network} {i m : ℕ} {given : ℕ → List ℕ} → Scannin
     → ((j : ℕ) → j < m → says j ≡ report net i (given j)) → (j : ℕ) → j + round-at net i given j ≤ m → RoundAt net i given j (in-turn says j (round-at net i given j))
 as-read {net} {i} {m} {given} R S says h j l = subst (RoundAt net i given j) (sym (in-turn-same h (round-at net i given j) j l)) (demand-3 net i m given R S j l)
 
+-- a scan is done at all only where the network is accepted and the table fits
+scanning : (ws : List ℕ) (m : ℕ) (lent : ℕ → List ℕ) (rooms : ℕ → ℕ) → ((j : ℕ) → j < m → scan-verdict ws (length (lent j)) (rooms j) .number ≡ 0) → 0 < m → Scanning (network-in ws) m lent
+scanning ws m lent rooms taken l = record {
+  accepted = accepted-good ws (checks ws (lent 0) (rooms 0) (taken 0 l));
+  right-size = λ j u. exact-table ws (lent j) (rooms j) (taken j u);
+}
+
 -- ---- calls with records
 module _ (ws : List ℕ) (i m : ℕ) (lent left : ℕ → List ℕ) (lists records : ℕ → List Outputs) (answers : ℕ → Verdict) (K : RecordCalls ws m lent left lists records answers) where
-  abbrev net : Network
-  net = network-in ws
-
   taken : (j : ℕ) → j < m → scan-verdict ws (length (lent j)) (length (lists j)) .number ≡ 0
   taken j l = sym (ap (λ (v : Verdict). v .number) (K .kept j l .answers)) ∙ K .done j l
 
-  -- a scan is done at all only where the network is accepted and the table fits
-  scanning : (j : ℕ) → j < m → Scanning net m lent
-  scanning j l = record {
-    accepted = accepted-good ws (checks ws (lent j) (length (lists j)) (taken j l));
-    right-size = λ k u. exact-table ws (lent k) (length (lists k)) (taken k u);
-  }
-
-  reads : i < block-count net → PointerKept net i m lent left → (j : ℕ) → j < m → reading net i (left j) (records j) ≡ report net i (lent j)
+  reads : i < block-count (network-in ws) → PointerKept (network-in ws) i m lent left → (j : ℕ) → j < m → reading (network-in ws) i (left j) (records j) ≡ report (network-in ws) i (lent j)
   reads there kept j l =
-      let outs : List Outputs = scanned net (lent j) .outs in
+      let outs : List Outputs = scanned (network-in ws) (lent j) .outs in
       ap₂ (λ (p : Outputs) (x : ℕ). cond (p .middle) (some x) none)
       (ap (λ (list : List Outputs). getD list i no-outputs) (K .kept j l .leaves-records ∙ done-records ws (lent j) (lists j) (taken j l))
-      ∙ List·getD-append outs (drop (block-count net) (lists j)) no-outputs i (omega (arith, all-outs-count net (lent j))))
+      ∙ List·getD-append outs (drop (block-count (network-in ws)) (lists j)) no-outputs i (omega (arith, all-outs-count (network-in ws) (lent j))))
       (kept j l)
 
 pub demand-3-records : Demand3Records
 demand-3-records ws i m lent left lists records answers K S kept j l =
     let c = round-some (source-found (network-in ws) i (lent j)) (matrix-found (network-in ws) i (lent j)) (block-of (network-in ws) i .n) in
-    as-read (scanning ws i m lent left lists records answers K 0 (omega (arith, c))) S
+    as-read (scanning ws m lent (λ k. length (lists k)) (taken ws i m lent left lists records answers K) (omega (arith, c))) S
     (λ s. reading (network-in ws) i (left s) (records s)) (reads ws i m lent left lists records answers K (S .there) kept) j l
 
 -- ---- and with numbers
 module _ (ws : List ℕ) (i m : ℕ) (lent left : ℕ → List ℕ) (lists numbers : ℕ → List ℕ) (answers : ℕ → Verdict) (K : PackedCalls ws m lent left lists numbers answers) where
-  abbrev packed-net : Network
-  packed-net = network-in ws
+  numbers-taken : (j : ℕ) → j < m → scan-verdict ws (length (lent j)) (length (lists j)) .number ≡ 0
+  numbers-taken j l = sym (ap (λ (v : Verdict). v .number) (K .kept j l .answers)) ∙ K .done j l
 
-  packed-taken : (j : ℕ) → j < m → scan-verdict ws (length (lent j)) (length (lists j)) .number ≡ 0
-  packed-taken j l = sym (ap (λ (v : Verdict). v .number) (K .kept j l .answers)) ∙ K .done j l
-
-  packed-scanning : (j : ℕ) → j < m → Scanning packed-net m lent
-  packed-scanning j l = record {
-    accepted = accepted-good ws (checks ws (lent j) (length (lists j)) (packed-taken j l));
-    right-size = λ k u. exact-table ws (lent k) (length (lists k)) (packed-taken k u);
-  }
-
-  packed-reads-it : i < block-count packed-net → PointerKept packed-net i m lent left → (j : ℕ) → j < m → reading packed-net i (left j) (map unpacked (numbers j)) ≡ report packed-net i (lent j)
-  packed-reads-it there kept j l =
-      let outs : List Outputs = scanned packed-net (lent j) .outs in
+  reads-numbers : i < block-count (network-in ws) → PointerKept (network-in ws) i m lent left → (j : ℕ) → j < m
+      → reading (network-in ws) i (left j) (map unpacked (numbers j)) ≡ report (network-in ws) i (lent j)
+  reads-numbers there kept j l =
+      let outs : List Outputs = scanned (network-in ws) (lent j) .outs in
       ap₂ (λ (p : Outputs) (x : ℕ). cond (p .middle) (some x) none)
       (unpacked-at (numbers j) i
-      ∙ ap (λ (list : List ℕ). unpacked (getD list i 0)) (K .kept j l .leaves-other ∙ done-outputs ws (lent j) (lists j) (packed-taken j l))
+      ∙ ap (λ (list : List ℕ). unpacked (getD list i 0)) (K .kept j l .leaves-other ∙ done-outputs ws (lent j) (lists j) (numbers-taken j l))
       ∙ ap unpacked
-      (List·getD-append (map packed outs) (drop (block-count packed-net) (lists j)) 0 i (omega (arith, length-map outs packed, all-outs-count packed-net (lent j)))
+      (List·getD-append (map packed outs) (drop (block-count (network-in ws)) (lists j)) 0 i (omega (arith, length-map outs packed, all-outs-count (network-in ws) (lent j)))
       ∙ packed-at outs i)
       ∙ unpack-pack (getD outs i no-outputs))
       (kept j l)
@@ -101,8 +90,8 @@ module _ (ws : List ℕ) (i m : ℕ) (lent left : ℕ → List ℕ) (lists numbe
 pub demand-3-packed : Demand3Packed
 demand-3-packed ws i m lent left lists numbers answers K S kept j l =
     let c = round-some (source-found (network-in ws) i (lent j)) (matrix-found (network-in ws) i (lent j)) (block-of (network-in ws) i .n) in
-    as-read (packed-scanning ws i m lent left lists numbers answers K 0 (omega (arith, c))) S
-    (λ s. reading (network-in ws) i (left s) (map unpacked (numbers s))) (packed-reads-it ws i m lent left lists numbers answers K (S .there) kept) j l
+    as-read (scanning ws m lent (λ k. length (lists k)) (numbers-taken ws i m lent left lists numbers answers K) (omega (arith, c))) S
+    (λ s. reading (network-in ws) i (left s) (map unpacked (numbers s))) (reads-numbers ws i m lent left lists numbers answers K (S .there) kept) j l
 
 -- the contract that `PackedCalls` speaks of is the one that the check reads off the source
 pub as-the-source-has-it : (κs : _) (a : _) (r : Verdict) (s : _) → packed-reads.Post κs a r s
