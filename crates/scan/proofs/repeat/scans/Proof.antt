@@ -21,7 +21,7 @@ areas : (c : tie.After-total) → c .total .result ≡ total (c .before .before 
 areas c = c .total .ensures ∙ ap total (c .before .sizes .ensures)
 
 exact : (c : tie.Else2) → length (now (c .before .before .before .before .before .before .before .before .before .before .before .args .table)) ≡ total (c .before .before .before .before .before .before .opening .result .sizes)
-exact c = c .if2 .left ∙ areas (c .before)
+exact c = omega (arith, c .if2 .left, areas (c .before))
 
 -- how many entries the scans have
 entries : (c : tie.After-count) → let times = c .before .before .before .before .before .before .before .before .before .before .before .before .args .times in
