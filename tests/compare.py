@@ -26,9 +26,10 @@ def file_of(name):
 
 
 def run_program(command, data):
-    """What the program prints, or a line that says how it failed."""
+    """What the program prints, and a line that says how it failed, or that it told another end on descriptor 3 than its text has."""
+    told_as_error = ["sh", "-c", 'exec "$@" 3>&2', "sh"] + command
     try:
-        done = subprocess.run(command, input=data, stdout=subprocess.PIPE, stderr=subprocess.PIPE, timeout=TIME_LIMIT)
+        done = subprocess.run(told_as_error, input=data, stdout=subprocess.PIPE, stderr=subprocess.PIPE, timeout=TIME_LIMIT)
     except subprocess.TimeoutExpired:
         return "(no end after %d seconds)\n" % TIME_LIMIT
     except OSError as error:
@@ -36,6 +37,8 @@ def run_program(command, data):
     text = done.stdout.decode("latin-1")
     if done.returncode != 0:
         text += "(ended with status %d)\n" % done.returncode
+    if done.stderr != (b"r" if text.startswith("refused") else b"w"):
+        text += "(told %r)\n" % done.stderr
     return text
 
 

@@ -1,2 +1,3 @@
--- What the program's own function asks for: a file whose run has begun.
+-- What the program's own functions ask for and promise: a file whose run has begun, what is told at the end.
 pub mod Begun
+pub mod Told

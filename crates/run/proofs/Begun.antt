@@ -64,7 +64,7 @@ module _ (ws : List ℕ) (odd : Bool) (table : List ℕ) (room : most-table ≤ 
       go false e = refl
 
   module _ {o : OpenedFile} {begun : List ℕ} (h : Leaves (started ws odd (length table)) (start-table ws odd table) o begun) where
-    verdict-is : o .verdict ≡ file-checked ws odd
+    pub verdict-is : o .verdict ≡ file-checked ws odd
     verdict-is = ap (λ (x : OpenedFile). x .verdict) (h .answers) ∙ as-checked
 
     prints : {out : List ℕ} → Printed ws o begun out → out ≡ words-text ws odd

@@ -1,19 +1,30 @@
--- `bench::bench` meets its contract: a refusal's place is a word, and an accepted file begins its run on a table of its areas. Assumes nothing.
-use mathlib.Core.Path.{_≡_, sym, _∙_}
+-- `bench::bench` meets its contract: a refusal's place is a word, an accepted file begins its run on a table of its areas, and the start
+-- refuses as the check does. Assumes nothing.
+use mathlib.Core.Path.{_≡_, sym, ap, subst, _∙_}
+use mathlib.Core.Bool.{Bool, true, false, cond}
+use mathlib.Core.Logic.{inr, ⊎-elim}
 use Prim.Native.Nat.{ℕ, _≤_}
 use native.Mathlib.Omega.{arith}
 use borrow.Author.Needs.{needs}
+use borrow.Author.Tests.{eq-eqb, ne-eqb}
 use denote.Ref.{now}
 use lib.ListN.{length, replicate, length-replicate}
 use lib.Seq.{length-take-le}
+use Rattle.verdict.specs.declared.Verdict.{Verdict}
 use Rattle.run.specs.Calls.{most-table}
-use Rattle.run.proofs.Begun.{place-small, accepted-even, words-are-its, scans-are-its, table-fits}
+use Rattle.run.proofs.Begun.{verdict-is, place-small, accepted-even, words-are-its, scans-are-its, table-fits}
+use Rattle.bench.specs.Told.{written, refused, Told, end-if}
 use Rattle.bench.proofs.bench.Statement.{statement}
 use Rattle.bench.proofs.bench.Tie as tie
 
 -- the table has room for any file's
 room : most-table ≤ length {A = ℕ} (replicate 10767 0)
 room = omega (arith, length-replicate {A = ℕ} 10767 0)
+
+-- where lines are missing, it is told that the output could not be written
+told-of : {end told : ℕ} (all-written : Bool) → Told (end-if all-written end) told → Told end told
+told-of true t = t
+told-of false t = inr (⊎-elim (λ e. e) (λ e. e) t)
 
 slice-aggregate-start : tie.Need-slice-aggregate-start
 slice-aggregate-start c = search needs
@@ -27,8 +38,16 @@ cast-refuse c = omega (arith, place-small _ _ _ room (c .before .before .before 
 refuse-requires : tie.Need-refuse-requires
 refuse-requires c κs = search needs
 
+closed-requires : tie.Need-closed-requires
+closed-requires c κs = search needs
+
+-- the check refuses it, too
 returns : tie.Need-returns
-returns c = search needs
+returns c =
+    let start = c .before .before .before .before .before .before .before .start in
+    let number = ap (λ (v : Verdict). v .number) (verdict-is _ _ _ room (start .ensures)) in
+    let bad = ap (λ (b : Bool). cond b written refused) (ne-eqb _ 0 (λ zero. c .before .before .before .if1 .taken (number ∙ zero))) in
+    subst (λ (end : ℕ). Told end (c .closed .result)) (sym bad) (told-of (c .before .refuse .result) (c .closed .ensures))
 
 -- what is taken of the table is there
 fits : (c : tie.Else1) → c .before .before .before .before .start .result .words ≤ length (c .before .before .before .before .start .last .1 .1 .0)
@@ -50,8 +69,16 @@ print-scans-requires c κs =
       all-scans = scans-are-its _ _ _ room h fine;
     }
 
+closed-requires-2 : tie.Need-closed-requires-2
+closed-requires-2 c κs = search needs
+
+-- the check accepts it, too
 returns-2 : tie.Need-returns-2
-returns-2 c = search needs
+returns-2 c =
+    let start = c .before .before .before .before .before .before .before .before .start in
+    let number = ap (λ (v : Verdict). v .number) (verdict-is _ _ _ room (start .ensures)) in
+    let fine = ap (λ (b : Bool). cond b written refused) (eq-eqb _ 0 (sym number ∙ c .before .before .before .before .if1 .left)) in
+    subst (λ (end : ℕ). Told end (c .closed2 .result)) (sym fine) (told-of (c .before .before .print-scans .result) (c .closed2 .ensures))
 
 pub bench-spec : {M : Type 1} → statement M
 bench-spec =
@@ -61,8 +88,10 @@ bench-spec =
     start-requires
     cast-refuse
     refuse-requires
+    closed-requires
     returns
     array-borrow-prefix-table
     slice-aggregate-print-scans
     print-scans-requires
+    closed-requires-2
     returns-2)

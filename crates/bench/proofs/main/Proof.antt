@@ -10,17 +10,23 @@ use Rattle.run.proofs.Begun.{count-is}
 use Rattle.bench.proofs.main.Statement.{statement}
 use Rattle.bench.proofs.main.Tie as tie
 
-slice-aggregate-read-full : tie.Need-slice-aggregate-read-full
-slice-aggregate-read-full c = search needs
+slice-aggregate-read-input : tie.Need-slice-aggregate-read-input
+slice-aggregate-read-input c = search needs
 
-read-full-requires : tie.Need-read-full-requires
-read-full-requires c κs = search needs
+read-input-requires : tie.Need-read-input-requires
+read-input-requires c κs = search needs
+
+tell-requires : tie.Need-tell-requires
+tell-requires c κs = search needs
+
+returns : tie.Need-returns
+returns c = search needs
 
 array-share-prefix-bytes : tie.Need-array-share-prefix-bytes
 array-share-prefix-bytes c = search needs
 
 slice-aggregate-to-words : tie.Need-slice-aggregate-to-words
-slice-aggregate-to-words c = search needs
+slice-aggregate-to-words c = sym (length-take-le _ _ (array-share-prefix-bytes (c .before)))
 
 slice-aggregate-to-words-2 : tie.Need-slice-aggregate-to-words-2
 slice-aggregate-to-words-2 c = search needs
@@ -31,8 +37,8 @@ to-words-requires c κs = search needs
 -- as many words as the bytes make
 few : (c : tie.After-words2) → c .before .to-words .result .count ≤ length (c .before .to-words .last .1 .0)
 few c =
-    let read = c .before .before .before .before .before .read-full in
-    let enough : words-count (take (read .result) (read .last .1 .0)) ≤ 12697 = omega (arith, read .ensures .0, read .ensures .1, read .kept .1 .0) in
+    let read = c .before .before .before .before .before .before .before .read-input in
+    let enough : words-count (take (read .result .count) (read .last .0)) ≤ 12697 = omega (arith, length-take-le (read .result .count) (read .last .0) (read .ensures), read .ensures, read .kept .0) in
     omega (arith, enough, count-is _ _ enough (c .before .to-words .ensures), c .before .to-words .kept .1 .0)
 
 array-share-prefix-words : tie.Need-array-share-prefix-words
@@ -44,15 +50,20 @@ slice-aggregate-bench c = sym (length-take-le _ _ (few (c .before)))
 bench-requires : tie.Need-bench-requires
 bench-requires c κs = search needs
 
-returns : tie.Need-returns
-returns c = search needs
+tell-requires-2 : tie.Need-tell-requires-2
+tell-requires-2 c κs = search needs
+
+returns-2 : tie.Need-returns-2
+returns-2 c = search needs
 
 pub main-spec : {M : Type 1} → statement M
 main-spec =
     tie.close
     (tie.spec
-    slice-aggregate-read-full
-    read-full-requires
+    slice-aggregate-read-input
+    read-input-requires
+    tell-requires
+    returns
     array-share-prefix-bytes
     slice-aggregate-to-words
     slice-aggregate-to-words-2
@@ -60,4 +71,5 @@ main-spec =
     array-share-prefix-words
     slice-aggregate-bench
     bench-requires
-    returns)
+    tell-requires-2
+    returns-2)

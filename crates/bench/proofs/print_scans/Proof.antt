@@ -46,20 +46,26 @@ further c =
     goes-further (now (x .args .words)) (x .pre .accepted) (loop .table) (loop .inv .0 ∙ x .pre .exact) (loop .next) (loop .inv .1) (omega (arith, c .before .before .before .before .before .before .before .before .loop-test .taken, x .pre .all-scans)) (length (loop .text))
     (omega (arith, loop .inv .2)) (run .ensures .answers)
 
-loop-less : tie.Need-loop-less Inv-loop μ-loop
-loop-less c = omega (arith, further c, c .before .before .before .before .before .before .before .before .loop-test .taken)
-
-loop-again : tie.Need-loop-again Inv-loop μ-loop
-loop-again c =
-    let loop = c .before .before .before .before .before .before .before .before .before .loop in
-    let run = c .before .before .before .before .before .run in
-    (run .kept .1 .0 ∙ loop .inv .0, omega (arith, further c), run .kept .1 .1 .1 .0 ∙ loop .inv .2)
-
 same-length : tie.Need-same-length Inv-loop μ-loop
 same-length c = search needs
 
 returns : tie.Need-returns Inv-loop μ-loop
 returns c = search needs
+
+loop-less : tie.Need-loop-less Inv-loop μ-loop
+loop-less c = omega (arith, further (c .before), c .before .before .before .before .before .before .before .before .before .loop-test .taken)
+
+loop-again : tie.Need-loop-again Inv-loop μ-loop
+loop-again c =
+    let loop = c .before .before .before .before .before .before .before .before .before .before .loop in
+    let run = c .before .before .before .before .before .before .run in
+    (run .kept .1 .0 ∙ loop .inv .0, omega (arith, further (c .before)), run .kept .1 .1 .1 .0 ∙ loop .inv .2)
+
+same-length-2 : tie.Need-same-length-2 Inv-loop μ-loop
+same-length-2 c = search needs
+
+returns-2 : tie.Need-returns-2 Inv-loop μ-loop
+returns-2 c = search needs
 
 pub print-scans-spec : {M : Type 1} → statement M
 print-scans-spec =
@@ -73,7 +79,9 @@ print-scans-spec =
     array-share-prefix-text
     slice-aggregate-write-all
     write-all-requires
+    same-length
+    returns
     loop-less
     loop-again
-    same-length
-    returns)
+    same-length-2
+    returns-2)
