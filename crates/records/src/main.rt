@@ -3,7 +3,8 @@
 // A line of a reader has the block and its record. A line of a scan has the five entries of the lent list, each with its top,
 // middle and bottom output, and the words of the table in hex. Before each scan every entry is 0 1 1, which no block leaves: so
 // the fifth entry is seen to stay where there are four blocks, and all five where the scan is refused. A refusal is told by its
-// number and place. What is printed must be what stands in the file stdout.
+// number and place. What is printed must be what stands in the file stdout. The program stops at the first write that fails,
+// and prints nothing after it.
 mod lent;
 mod print;
 
@@ -46,38 +47,42 @@ fn words_of(count: u16) -> [u16; 96] {
 }
 
 // The record of block k, or the refusal.
-fn block(words: &[u16], k: usize) {
+fn block(words: &[u16], k: usize) -> bool {
     let asked = ask(words, k);
     let read = asked.read;
-    print::named(b"block ", k);
-    print::text(b":");
-    print::read(read);
-    print::text(b"\n");
+    print::named(b"block ", k) && print::text(b":") && print::read(read) && print::text(b"\n")
+}
+
+fn blocks(words: &[u16]) -> bool {
+    let mut k = 0;
+    while k < 6 {
+        if !block(words, k) {
+            return false;
+        }
+        k += 1;
+    }
+    true
 }
 
 // What a reader opened on these words says of them, and of blocks 0 to 5.
-fn reader(words: &[u16]) {
+fn reader(words: &[u16]) -> bool {
     let asked = ask(words, 0);
-    print::named(b"words ", words.len());
-    print::text(b":");
-    print::opened(asked.opened);
-    print::text(b"\n");
-    let mut k = 0;
-    while k < 6 {
-        block(words, k);
-        k += 1;
-    }
+    print::named(b"words ", words.len())
+        && print::text(b":")
+        && print::opened(asked.opened)
+        && print::text(b"\n")
+        && blocks(words)
 }
 
 // One scan and its line.
-fn scan_once(name: &[u8], words: &[u16], table: &mut [u16]) {
+fn scan_once(name: &[u8], words: &[u16], table: &mut [u16; 9]) -> bool {
     let scanned = lend(words, table, [BEFORE; 5]);
     let list = scanned.list;
-    print::text(name);
-    print::refused(scanned.verdict);
-    print::list(list);
-    print::table(table);
-    print::text(b"\n");
+    print::text(name)
+        && print::refused(scanned.verdict)
+        && print::list(list)
+        && print::table(table)
+        && print::text(b"\n")
 }
 
 // The first n words, or all where there are not so many.
@@ -94,11 +99,11 @@ fn main() {
     let words = front(&four, 66);
     let short = front(&four, 65);
     let mut table = IMAGE;
-    reader(words);
-    reader(short);
-    scan_once(b"scan 1:", words, &mut table);
-    scan_once(b"scan 2:", words, &mut table);
-    scan_once(b"scan 3:", words, &mut table);
-    scan_once(b"short words:", short, &mut table);
-    scan_once(b"six blocks:", &six, &mut table);
+    let written = reader(words)
+        && reader(short)
+        && scan_once(b"scan 1:", words, &mut table)
+        && scan_once(b"scan 2:", words, &mut table)
+        && scan_once(b"scan 3:", words, &mut table)
+        && scan_once(b"short words:", short, &mut table)
+        && scan_once(b"six blocks:", &six, &mut table);
 }

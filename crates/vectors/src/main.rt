@@ -1,5 +1,5 @@
 // Makes the calls whose edges no bench file can show, and prints what comes back: values and never a judgement on them. What it
-// must print stands in the file stdout.
+// must print stands in the file stdout. The program stops at the first write that fails, and prints nothing after it.
 //
 // A line has the name of the call, the numbers that are the case, and after a colon what comes back, all in decimal. A verdict is
 // its number and its place, 0 0 where the call is done.
@@ -11,14 +11,12 @@ mod records;
 mod words;
 
 fn main() {
-    print::text(b"call, case: what comes back");
-    pointers::all();
-    parts::small();
-    parts::large();
-    parts::limits();
-    lent::all();
-    records::rounds();
-    records::writer();
-    records::reader();
-    print::text(b"\n");
+    let written = print::text(b"call, case: what comes back")
+        && pointers::all()
+        && parts::all()
+        && lent::all()
+        && records::rounds()
+        && records::writer()
+        && records::reader()
+        && print::text(b"\n");
 }

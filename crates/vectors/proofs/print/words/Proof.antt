@@ -1,18 +1,15 @@
--- `vectors::print::numbers` meets its contract: the loop goes through the list. Assumes nothing.
+-- `vectors::print::words` meets its contract: the loop goes through the list. Assumes nothing.
 use borrow.Author.Needs.{needs}
 use Prim.Native.Nat.{_≤_, _-_}
 use lib.ListN.{length}
-use Rattle.vectors.proofs.print.numbers.Statement.{statement}
-use Rattle.vectors.proofs.print.numbers.Tie as tie
+use Rattle.vectors.proofs.print.words.Statement.{statement}
+use Rattle.vectors.proofs.print.words.Tie as tie
 
 abbrev Inv-loop : tie.InvT-loop
-Inv-loop name list i₀ i = i ≤ length list
+Inv-loop list i₀ i = i ≤ length list
 
 abbrev μ-loop : tie.MeasureT-loop
-μ-loop name list i₀ i = length list - i
-
-text-requires : tie.Need-text-requires Inv-loop μ-loop
-text-requires c κs = search needs
+μ-loop list i₀ i = length list - i
 
 loop-holds : tie.Need-loop-holds Inv-loop μ-loop
 loop-holds c = search needs
@@ -26,6 +23,9 @@ shared-slice-read-word c = search needs
 word-requires : tie.Need-word-requires Inv-loop μ-loop
 word-requires c κs = search needs
 
+returns : tie.Need-returns Inv-loop μ-loop
+returns c = search needs
+
 add-i : tie.Need-add-i Inv-loop μ-loop
 add-i c = search needs
 
@@ -35,21 +35,21 @@ loop-less c = search needs
 loop-again : tie.Need-loop-again Inv-loop μ-loop
 loop-again c = search needs
 
-returns : tie.Need-returns Inv-loop μ-loop
-returns c = search needs
+returns-2 : tie.Need-returns-2 Inv-loop μ-loop
+returns-2 c = search needs
 
-pub numbers-spec : {M : Type 1} → statement M
-numbers-spec =
+pub words-spec : {M : Type 1} → statement M
+words-spec =
     tie.close
     (tie.spec
     Inv-loop
     μ-loop
-    text-requires
     loop-holds
     mul-word
     shared-slice-read-word
     word-requires
+    returns
     add-i
     loop-less
     loop-again
-    returns)
+    returns-2)

@@ -1,21 +1,15 @@
--- `records::print::table` meets its contract: the loop goes through the table. Assumes nothing.
+-- `records::print::words` meets its contract: the loop goes through the table. Assumes nothing.
 use borrow.Author.Needs.{needs}
 use Prim.Native.Nat.{_≤_, _-_}
 use lib.ListN.{length}
-use Rattle.records.proofs.print.table.Statement.{statement}
-use Rattle.records.proofs.print.table.Tie as tie
+use Rattle.records.proofs.print.words.Statement.{statement}
+use Rattle.records.proofs.print.words.Tie as tie
 
 abbrev Inv-loop : tie.InvT-loop
 Inv-loop table i₀ i = i ≤ length table
 
 abbrev μ-loop : tie.MeasureT-loop
 μ-loop table i₀ i = length table - i
-
-slice-aggregate-text : tie.Need-slice-aggregate-text Inv-loop μ-loop
-slice-aggregate-text c = search needs
-
-text-requires : tie.Need-text-requires Inv-loop μ-loop
-text-requires c κs = search needs
 
 loop-holds : tie.Need-loop-holds Inv-loop μ-loop
 loop-holds c = search needs
@@ -29,6 +23,9 @@ shared-slice-read-word c = search needs
 word-requires : tie.Need-word-requires Inv-loop μ-loop
 word-requires c κs = search needs
 
+returns : tie.Need-returns Inv-loop μ-loop
+returns c = search needs
+
 add-i : tie.Need-add-i Inv-loop μ-loop
 add-i c = search needs
 
@@ -38,22 +35,21 @@ loop-less c = search needs
 loop-again : tie.Need-loop-again Inv-loop μ-loop
 loop-again c = search needs
 
-returns : tie.Need-returns Inv-loop μ-loop
-returns c = search needs
+returns-2 : tie.Need-returns-2 Inv-loop μ-loop
+returns-2 c = search needs
 
-pub table-spec : {M : Type 1} → statement M
-table-spec =
+pub words-spec : {M : Type 1} → statement M
+words-spec =
     tie.close
     (tie.spec
     Inv-loop
     μ-loop
-    slice-aggregate-text
-    text-requires
     loop-holds
     mul-word
     shared-slice-read-word
     word-requires
+    returns
     add-i
     loop-less
     loop-again
-    returns)
+    returns-2)
