@@ -29,25 +29,6 @@ const WORDS: [u16; 22] = [
     0,
 ];
 
-// How many blocks, the length of the first, and how many words of the network, words of the table and outputs are lent.
-const CASES: [[u16; 5]; 11] = [
-    // All that is asked for; entries after the count stay.
-    [1, 1, 21, 3, 1],
-    [1, 1, 21, 3, 3],
-    // A table that is a word short, a word long, and none; no outputs.
-    [1, 1, 21, 2, 1],
-    [1, 1, 21, 4, 1],
-    [1, 1, 21, 0, 1],
-    [1, 1, 21, 3, 0],
-    // No table and no outputs for length 0; no outputs for no blocks.
-    [1, 0, 21, 0, 0],
-    [0, 1, 6, 3, 0],
-    // A word left over, with outputs and without; the last word missing.
-    [1, 1, 22, 3, 1],
-    [1, 1, 22, 3, 0],
-    [1, 1, 20, 3, 1],
-];
-
 // One scan, and what it leaves of what it is lent.
 fn lend(words: &[u16], table: &mut [u16], outputs: &mut [u16]) -> bool {
     print::verdict(scan::scan_packed(words, table, outputs))
@@ -55,28 +36,36 @@ fn lend(words: &[u16], table: &mut [u16], outputs: &mut [u16]) -> bool {
         && print::numbers(b" table", table)
 }
 
-// The table is 0x8001 and zeros before the scan, the outputs 9 each.
-fn case(row: [u16; 5]) -> bool {
+// How many blocks, the length of the first, and how many words of the network, words of the table and outputs are lent. The
+// table is 0x8001 and zeros before the scan, the outputs 9 each.
+fn case(blocks: u16, n: u16, end: u16, size: u16, room: u16) -> bool {
     let mut words = WORDS;
-    words[5] = row[0];
-    words[7] = row[1];
+    words[5] = blocks;
+    words[7] = n;
     let mut table = [0x8001, 0, 0, 0];
     let mut outputs = [9; 3];
-    print::numbers(b"\nlent", &row)
+    print::numbers(b"\nlent", &[blocks, n, end, size, room])
         && lend(
-            front(&words, row[2]),
-            front_mut(&mut table, row[3]),
-            front_mut(&mut outputs, row[4]),
+            front(&words, end),
+            front_mut(&mut table, size),
+            front_mut(&mut outputs, room),
         )
 }
 
 pub(crate) fn all() -> bool {
-    let mut i = 0;
-    while i < CASES.len() {
-        if !case(CASES[i]) {
-            return false;
-        }
-        i += 1;
-    }
-    true
+    // All that is asked for; entries after the count stay.
+    case(1, 1, 21, 3, 1)
+        && case(1, 1, 21, 3, 3)
+        // A table that is a word short, a word long, and none; no outputs.
+        && case(1, 1, 21, 2, 1)
+        && case(1, 1, 21, 4, 1)
+        && case(1, 1, 21, 0, 1)
+        && case(1, 1, 21, 3, 0)
+        // No table and no outputs for length 0; no outputs for no blocks.
+        && case(1, 0, 21, 0, 0)
+        && case(0, 1, 6, 3, 0)
+        // A word left over, with outputs and without; the last word missing.
+        && case(1, 1, 22, 3, 1)
+        && case(1, 1, 22, 3, 0)
+        && case(1, 1, 20, 3, 1)
 }

@@ -13,7 +13,9 @@ mod words;
 fn main() {
     let written = print::text(b"call, case: what comes back")
         && pointers::all()
-        && parts::all()
+        && parts::small()
+        && parts::large()
+        && parts::limits()
         && lent::all()
         && records::rounds()
         && records::writer()

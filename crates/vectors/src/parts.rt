@@ -3,40 +3,6 @@ use crate::print;
 use crate::words::front;
 use table::Sizes;
 
-// The words of the four areas, how many words of the table are lent, the class, the number and the length.
-const CASES: [[u16; 8]; 27] = [
-    // Two words of coils, one of discrete inputs, one input register, two holding registers.
-    [2, 1, 1, 2, 6, 0, 1, 2],
-    [2, 1, 1, 2, 6, 0, 1, 3],
-    [2, 1, 1, 2, 6, 0, 17, 1],
-    [2, 1, 1, 2, 6, 0, 16, 1],
-    [2, 1, 1, 2, 6, 0, 33, 1],
-    [2, 1, 1, 2, 6, 1, 1, 1],
-    [2, 1, 1, 2, 6, 1, 17, 1],
-    [2, 1, 1, 2, 6, 3, 1, 1],
-    [2, 1, 1, 2, 6, 4, 1, 2],
-    [2, 1, 1, 2, 6, 4, 2, 1],
-    [2, 1, 1, 2, 6, 4, 2, 2],
-    [2, 1, 1, 2, 6, 4, 0, 1],
-    [2, 1, 1, 2, 6, 4, 1, 0],
-    [2, 1, 1, 2, 6, 2, 1, 1],
-    [2, 1, 1, 2, 6, 9, 1, 1],
-    [2, 1, 1, 2, 7, 4, 1, 2],
-    // The longest matrix, and a table that is a word short.
-    [32, 16, 96, 820, 964, 4, 1, 255],
-    [32, 16, 96, 820, 964, 4, 566, 255],
-    [32, 16, 96, 820, 964, 4, 567, 255],
-    [32, 16, 96, 820, 964, 4, 1, 256],
-    [32, 16, 96, 820, 963, 4, 1, 255],
-    // Discretes alone, then input registers alone, at the limit and over it.
-    [128, 0, 0, 0, 128, 0, 2033, 1],
-    [129, 0, 0, 0, 129, 0, 2033, 1],
-    [0, 128, 0, 0, 128, 1, 2033, 1],
-    [0, 129, 0, 0, 129, 1, 2033, 1],
-    [0, 0, 512, 0, 512, 3, 512, 1],
-    [0, 0, 513, 0, 513, 3, 512, 1],
-];
-
 // 1 to 6 are the first words; where there are 820 holding registers, 1, 2, 3 and 4 are 40001, 40255, 40566 and 40820; 7 is every
 // other word.
 fn table() -> [u16; 964] {
@@ -61,23 +27,65 @@ fn part(sizes: Sizes, lent: u16, class: u16, number: u16, n: u16) -> bool {
     print::numbers(b":", part)
 }
 
-fn case(row: [u16; 8]) -> bool {
+// The words of the four areas, how many words of the table are lent, the class, the number and the length.
+fn case(
+    coils: u16,
+    discretes: u16,
+    inputs: u16,
+    holding: u16,
+    lent: u16,
+    class: u16,
+    number: u16,
+    n: u16,
+) -> bool {
     let sizes = Sizes {
-        coils: row[0],
-        discretes: row[1],
-        inputs: row[2],
-        holding: row[3],
+        coils,
+        discretes,
+        inputs,
+        holding,
     };
-    print::numbers(b"\nmatrix", &row) && part(sizes, row[4], row[5], row[6], row[7])
+    print::numbers(
+        b"\nmatrix",
+        &[coils, discretes, inputs, holding, lent, class, number, n],
+    )
+        && part(sizes, lent, class, number, n)
 }
 
-pub(crate) fn all() -> bool {
-    let mut i = 0;
-    while i < CASES.len() {
-        if !case(CASES[i]) {
-            return false;
-        }
-        i += 1;
-    }
-    true
+// Two words of coils, one of discrete inputs, one input register, two holding registers.
+pub(crate) fn small() -> bool {
+    case(2, 1, 1, 2, 6, 0, 1, 2)
+        && case(2, 1, 1, 2, 6, 0, 1, 3)
+        && case(2, 1, 1, 2, 6, 0, 17, 1)
+        && case(2, 1, 1, 2, 6, 0, 16, 1)
+        && case(2, 1, 1, 2, 6, 0, 33, 1)
+        && case(2, 1, 1, 2, 6, 1, 1, 1)
+        && case(2, 1, 1, 2, 6, 1, 17, 1)
+        && case(2, 1, 1, 2, 6, 3, 1, 1)
+        && case(2, 1, 1, 2, 6, 4, 1, 2)
+        && case(2, 1, 1, 2, 6, 4, 2, 1)
+        && case(2, 1, 1, 2, 6, 4, 2, 2)
+        && case(2, 1, 1, 2, 6, 4, 0, 1)
+        && case(2, 1, 1, 2, 6, 4, 1, 0)
+        && case(2, 1, 1, 2, 6, 2, 1, 1)
+        && case(2, 1, 1, 2, 6, 9, 1, 1)
+        && case(2, 1, 1, 2, 7, 4, 1, 2)
+}
+
+// The longest matrix, and a table that is a word short.
+pub(crate) fn large() -> bool {
+    case(32, 16, 96, 820, 964, 4, 1, 255)
+        && case(32, 16, 96, 820, 964, 4, 566, 255)
+        && case(32, 16, 96, 820, 964, 4, 567, 255)
+        && case(32, 16, 96, 820, 964, 4, 1, 256)
+        && case(32, 16, 96, 820, 963, 4, 1, 255)
+}
+
+// Discretes alone, then input registers alone, at the limit and over it.
+pub(crate) fn limits() -> bool {
+    case(128, 0, 0, 0, 128, 0, 2033, 1)
+        && case(129, 0, 0, 0, 129, 0, 2033, 1)
+        && case(0, 128, 0, 0, 128, 1, 2033, 1)
+        && case(0, 129, 0, 0, 129, 1, 2033, 1)
+        && case(0, 0, 512, 0, 512, 3, 512, 1)
+        && case(0, 0, 513, 0, 513, 3, 512, 1)
 }

@@ -58,43 +58,6 @@ const WORDS: [u16; 36] = [
     0,
 ];
 
-// AND, CMPR, MBIT, SENS, and one of length 0.
-const ROUNDS: [[u16; 15]; 5] = [
-    [1, 15, 1, 17, 0, 33, 2, 512, 3, 1, 4, 256, 1, 2, 3],
-    [5, 96, 3, 1, 4, 724, 5, 1, 0, 0, 1, 0, 0, 511, 512],
-    [6, 255, 9, 999, 4, 566, 1, 0, 1, 0, 1, 0, 7, 7, 7],
-    [7, 255, 9, 0, 4, 566, 1, 0, 5, 255, 4, 254, 0, 0, 0],
-    [5, 0, 3, 1, 4, 724, 5, 1, 0, 0, 0, 0, 0, 0, 0],
-];
-
-// Words of coils, k, how many words are lent, the number of the pointer, the code and the number of the top input.
-const WRITES: [[u16; 6]; 12] = [
-    // The order of the writer's tests: sizes, k, the 15 words, the buffer.
-    [129, 0, 14, 3, 1, 0],
-    [0, 0, 14, 3, 1, 0],
-    [0, 129, 14, 3, 1, 0],
-    [0, 1, 14, 3, 1, 0],
-    [0, 1, 14, 2, 1, 0],
-    [0, 1, 15, 2, 1, 0],
-    [0, 1, 16, 2, 1, 0],
-    [0, 128, 0, 2, 1, 0],
-    // A record that reads an earlier block: k says how many are earlier.
-    [0, 1, 15, 2, 6, 1],
-    [0, 2, 15, 2, 6, 1],
-    [0, 128, 15, 2, 8, 127],
-    [0, 128, 15, 2, 8, 128],
-];
-
-// How many blocks, how many words are lent, and k: k at the edges, words cut short, and no blocks.
-const ASKS: [[u16; 3]; 6] = [
-    [2, 36, 0],
-    [2, 36, 1],
-    [2, 36, 2],
-    [2, 36, 3],
-    [2, 35, 3],
-    [0, 6, 1],
-];
-
 // These areas, and one block whose words are 0.
 fn one_block() -> [u16; 36] {
     let mut words = [0; 36];
@@ -186,54 +149,59 @@ fn round(row: [u16; 15]) -> bool {
 }
 
 pub(crate) fn rounds() -> bool {
-    let mut i = 0;
-    while i < ROUNDS.len() {
-        if !round(ROUNDS[i]) {
-            return false;
-        }
-        i += 1;
-    }
-    true
+    // AND, CMPR, MBIT, SENS, and one of length 0.
+    round([1, 15, 1, 17, 0, 33, 2, 512, 3, 1, 4, 256, 1, 2, 3])
+        && round([5, 96, 3, 1, 4, 724, 5, 1, 0, 0, 1, 0, 0, 511, 512])
+        && round([6, 255, 9, 999, 4, 566, 1, 0, 1, 0, 1, 0, 7, 7, 7])
+        && round([7, 255, 9, 0, 4, 566, 1, 0, 5, 255, 4, 254, 0, 0, 0])
+        && round([5, 0, 3, 1, 4, 724, 5, 1, 0, 0, 0, 0, 0, 0, 0])
 }
 
-// The writer on a CMPR of 40001 in a table of so many words of coils and three holding registers.
-fn write(row: [u16; 6]) -> bool {
+// The writer on a CMPR of 40001 in a table of so many words of coils and three holding registers: k, how many words are lent,
+// the number of the pointer, the code and the number of the top input.
+fn write(coils: u16, k: u16, lent: u16, pointer: u16, code: u16, number: u16) -> bool {
     let sizes = Sizes {
-        coils: row[0],
+        coils,
         discretes: 0,
         inputs: 0,
         holding: 3,
     };
-    let block = block_of([5, 1, 4, 1, 4, row[3], row[4], row[5], 0, 0, 0, 0, 0, 0, 0]);
+    let block = block_of([5, 1, 4, 1, 4, pointer, code, number, 0, 0, 0, 0, 0, 0, 0]);
     let mut buffer = [7; 16];
-    print::numbers(b"\nwriter", &row)
-        && written(sizes, row[1], block, front_mut(&mut buffer, row[2]))
+    print::numbers(b"\nwriter", &[coils, k, lent, pointer, code, number])
+        && written(sizes, k, block, front_mut(&mut buffer, lent))
 }
 
 pub(crate) fn writer() -> bool {
-    let mut i = 0;
-    while i < WRITES.len() {
-        if !write(WRITES[i]) {
-            return false;
-        }
-        i += 1;
-    }
-    true
+    // The order of the writer's tests: sizes, k, the 15 words, the buffer.
+    write(129, 0, 14, 3, 1, 0)
+        && write(0, 0, 14, 3, 1, 0)
+        && write(0, 129, 14, 3, 1, 0)
+        && write(0, 1, 14, 3, 1, 0)
+        && write(0, 1, 14, 2, 1, 0)
+        && write(0, 1, 15, 2, 1, 0)
+        && write(0, 1, 16, 2, 1, 0)
+        && write(0, 128, 0, 2, 1, 0)
+        // A record that reads an earlier block: k says how many are earlier.
+        && write(0, 1, 15, 2, 6, 1)
+        && write(0, 2, 15, 2, 6, 1)
+        && write(0, 128, 15, 2, 8, 127)
+        && write(0, 128, 15, 2, 8, 128)
 }
 
-fn ask(row: [u16; 3]) -> bool {
+// The reader: how many blocks, how many words are lent, and k.
+fn ask(blocks: u16, end: u16, k: u16) -> bool {
     let mut words = WORDS;
-    words[5] = row[0];
-    print::numbers(b"\nreader", &row) && read(&words, row[1], row[2])
+    words[5] = blocks;
+    print::numbers(b"\nreader", &[blocks, end, k]) && read(&words, end, k)
 }
 
 pub(crate) fn reader() -> bool {
-    let mut i = 0;
-    while i < ASKS.len() {
-        if !ask(ASKS[i]) {
-            return false;
-        }
-        i += 1;
-    }
-    true
+    // k at the edges, words cut short, and no blocks.
+    ask(2, 36, 0)
+        && ask(2, 36, 1)
+        && ask(2, 36, 2)
+        && ask(2, 36, 3)
+        && ask(2, 35, 3)
+        && ask(0, 6, 1)
 }
