@@ -7,7 +7,7 @@
 ghost use Prim.Native.Nat.{_≤_};
 ghost use lib.ListN.{length};
 ghost use Rattle.bench.specs.Begun.{Begun};
-ghost use Rattle.bench.specs.Told.{Told, end-of, end-if};
+ghost use Rattle.bench.specs.Told.{end-of, end-if, Told};
 
 // The largest file that is accepted has 12,696 words; one more is enough to know that words are left over.
 const MOST_BYTES: usize = 25394;

@@ -13,7 +13,7 @@ use lib.Seq.{length-take-le}
 use Rattle.verdict.specs.declared.Verdict.{Verdict}
 use Rattle.run.specs.Calls.{most-table}
 use Rattle.run.proofs.Begun.{verdict-is, place-small, accepted-even, words-are-its, scans-are-its, table-fits}
-use Rattle.bench.specs.Told.{written, refused, Told, end-if}
+use Rattle.bench.specs.Told.{told-written, told-refused, end-if, Told}
 use Rattle.bench.proofs.bench.Statement.{statement}
 use Rattle.bench.proofs.bench.Tie as tie
 
@@ -46,7 +46,7 @@ returns : tie.Need-returns
 returns c =
     let start = c .before .before .before .before .before .before .before .start in
     let number = ap (λ (v : Verdict). v .number) (verdict-is _ _ _ room (start .ensures)) in
-    let bad = ap (λ (b : Bool). cond b written refused) (ne-eqb _ 0 (λ zero. c .before .before .before .if1 .taken (number ∙ zero))) in
+    let bad = ap (λ (b : Bool). cond b told-written told-refused) (ne-eqb _ 0 (λ zero. c .before .before .before .if1 .taken (number ∙ zero))) in
     subst (λ (end : ℕ). Told end (c .closed .result)) (sym bad) (told-of (c .before .refuse .result) (c .closed .ensures))
 
 -- what is taken of the table is there
@@ -77,7 +77,7 @@ returns-2 : tie.Need-returns-2
 returns-2 c =
     let start = c .before .before .before .before .before .before .before .before .start in
     let number = ap (λ (v : Verdict). v .number) (verdict-is _ _ _ room (start .ensures)) in
-    let fine = ap (λ (b : Bool). cond b written refused) (eq-eqb _ 0 (sym number ∙ c .before .before .before .before .if1 .left)) in
+    let fine = ap (λ (b : Bool). cond b told-written told-refused) (eq-eqb _ 0 (sym number ∙ c .before .before .before .before .if1 .left)) in
     subst (λ (end : ℕ). Told end (c .closed2 .result)) (sym fine) (told-of (c .before .before .print-scans .result) (c .closed2 .ensures))
 
 pub bench-spec : {M : Type 1} → statement M
