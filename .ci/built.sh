@@ -2,7 +2,8 @@
 # A build stands in built/, in a folder named by the sources' checksum: the program bench, the words that start it, and the identity
 # of the kit that proved and built it. (Proofs are no part of the checksum: another proof leaves the program as it was, and proved.)
 find_checksum() {
-    sums=$(cd "$here" && sha256sum crates.txt crates/*/src/* crates/*/specs/*) || end 3 'the sources cannot be read'
+    sums=$(cd "$here" && sha256sum crates.txt crates/*/src/* crates/*/specs/* 2>/dev/null) ||
+        end 3 'the sources cannot be read'
     checksum=$(printf '%s\n' "$sums" | sha256sum)
     checksum=${checksum%% *}
 }
