@@ -9,10 +9,10 @@ ghost use lib.ListN.{length};
 ghost use Rattle.bench.specs.Begun.{Begun};
 ghost use Rattle.bench.specs.Told.{end-of, end-if, Told};
 
-// The largest file that is accepted has 12,696 words; one more is enough to know that words are left over.
-const MOST_BYTES: usize = 25394;
+// The largest file that is accepted has 12,697 words; one more is enough to know that words are left over.
+const MOST_BYTES: usize = 25396;
 
-const MOST_WORDS: usize = 12697;
+const MOST_WORDS: usize = 12698;
 
 // The words of the largest table.
 const MOST_TABLE: usize = 10767;

@@ -38,9 +38,9 @@ unfoldable pub matrix : ℕ → (ℕ → Bool) → Matrix
 matrix zero f = []
 matrix (suc n) f = word-with f ∷ matrix n (λ p. f (16 + p))
 
--- the longest matrix that is read as a whole (AND to BROT), in words, and the longest of all (MBIT, SENS)
+-- the longest matrix that is read as a whole (AND to BROT), in words, and the longest of all (MBIT, SENS at Level 2)
 abbrev pub longest-whole : ℕ
 longest-whole = 100
 
 abbrev pub longest : ℕ
-longest = 255
+longest = 600

@@ -5,10 +5,10 @@ ghost use mathlib.Core.Bool.{not, _&&_, _||_, xor};
 ghost use Rattle.bits.specs.Bit.{of, word-with};
 ghost use Rattle.bits.specs.Word.{rightward, leftward, put};
 
-// The longest matrix that is read as a whole (AND to BROT), in words, and the longest of all (MBIT, SENS).
+// The longest matrix that is read as a whole (AND to BROT), in words, and the longest of all (MBIT, SENS at Level 2).
 pub const LONGEST_WHOLE: usize = 100;
 
-pub const LONGEST: usize = 255;
+pub const LONGEST: usize = 600;
 
 pub fn and_words(a: u16, b: u16) -> u16
     ensures { λ r. ⌜ r ≡ word-with (λ p. of a p && of b p) ⌝ }

@@ -6,6 +6,7 @@ use mathlib.Core.Option.{Option, none, some}
 use Prim.Native.Nat.{ℕ, zero, suc, _*_, _≤_}
 use native.Mathlib.Omega.{arith}
 use lib.Dec.{eqb, leb}
+use Rattle.bits.specs.Bit.{longest}
 use Rattle.pointer.specs.declared.Pointer.{Pointer}
 use Rattle.pointer.specs.Pointer.{sized, reset}
 use Rattle.pointer.proofs.Pointers.{size-right, steps as sized-steps}
@@ -66,7 +67,7 @@ module _ (net : Network) (earlier : ℕ) (b : Block) (g : GoodBlock (net .sizes)
   facts : KindFacts (net .sizes) b
   facts = accepted-means (net .sizes) earlier b g
 
-  fits : 1 ≤ b .n → b .n ≤ 255 → sized (16 * b .n) ≡ true
+  fits : 1 ≤ b .n → b .n ≤ longest → sized (16 * b .n) ≡ true
   fits l u = size-right (16 * b .n) (omega arith) (omega arith) (omega arith)
 
   idle-as : (k : ℕ) → b .kind ≡ k → 1 ≤ k → k ≤ 8 → (v : View) (on : Power) → on .top ≡ false

@@ -4,26 +4,27 @@ use mathlib.Core.Bool.{Bool, true, false}
 use mathlib.Core.List.{List, [], _∷_, _++_, append-assoc}
 use Prim.Native.Nat.{ℕ, zero, suc, _+_, _≤_}
 use native.Mathlib.Nat.{le-antisymm}
-use native.Mathlib.Numerals.{add-one}
 use native.Mathlib.Omega.{arith}
 use borrow.Author.Tests.{eqb-true, eq-eqb}
 use lib.Dec.{eqb}
 use lib.ListN.{length, take, drop, replicate, length-append, length-drop, length-replicate}
-use lib.Seq.{take-add, take-suc, take-all, append-snoc, length-take-le, drop-at, drop-append-seam}
+use lib.Seq.{take-suc, take-all, append-snoc, length-take-le, drop-at, drop-append-seam}
 use Rattle.verdict.specs.declared.Verdict.{Verdict}
 use Rattle.section.specs.Walk.{word, first-of, left-over}
 use Rattle.verdict.specs.Verdict.{done}
 use Rattle.section.specs.Section.{section-earns, section-rest, earned, end, judged-from}
 use Rattle.section.specs.Truths.{Clean, Good}
 use Rattle.section.proofs.Walk.{then-next, then-zero, done-clean, clean-done}
-use Rattle.section.proofs.Words.{word-here}
+use Rattle.section.proofs.Words.{word-here, one-more}
 use Rattle.section.proofs.Sections.{none-over, none-left, earned-good, good-earned, whole-done}
 use Rattle.table.specs.Table.{total}
 use Rattle.network.specs.Network.{Network, words-of}
 use Rattle.section.specs.Limit.{counted}
+use Rattle.areas.specs.Areas.{has-level}
+use Rattle.areas.proofs.Laws.{areas-few}
 use Rattle.network.specs.Check.{network-in, network-end, front-checked}
-use Rattle.network.specs.Sound.{GoodNetwork}
-use Rattle.network.proofs.Accepted.{spells-front, end-front, good-front-done, front-words, front-opens as network-opens}
+use Rattle.network.specs.Sound.{GoodNetwork, Spellable}
+use Rattle.network.proofs.Accepted.{spells-front, end-front, good-front-done, front-words, spellable, front-opens as network-opens}
 use Rattle.section.proofs.Limits.{counted-in, count-of}
 use Rattle.network.proofs.Good.{front-good}
 use Rattle.network.proofs.Networks.{count-is, end-is}
@@ -36,13 +37,9 @@ parts : (ws : List ℕ) (at n : ℕ) → length ws ≡ at + 1 + n + 2
     → take at ws ++ word ws at ∷ take n (drop (at + 1) ws) ++ word ws (at + 1 + n) ∷ word ws (at + 1 + n + 1) ∷ [] ≡ ws
 parts ws at n e =
     let k : ℕ = at + 1 + n in
-    let more : List ℕ = take n (drop (at + 1) ws) in
     let one : k + 1 ≡ suc k = omega arith in
     let all : length ws ≤ suc (suc k) = omega arith in
-    ap (λ (l : List ℕ). l ++ word ws k ∷ word ws (k + 1) ∷ [])
-    (sym (append-snoc (take at ws) (word ws at) more)
-    ∙ ap (λ (l : List ℕ). l ++ more) (sym (take-suc ws at 0 (omega arith)) ∙ ap (λ (j : ℕ). take j ws) (sym (add-one at)))
-    ∙ sym (take-add (at + 1) n ws))
+    ap (λ (l : List ℕ). l ++ word ws k ∷ word ws (k + 1) ∷ []) (one-more ws at n (omega arith))
     ∙ sym (append-snoc (take k ws) (word ws k) (word ws (k + 1) ∷ []))
     ∙ ap (λ (l : List ℕ). l ++ word ws (k + 1) ∷ []) (sym (take-suc ws k 0 (omega arith)))
     ∙ ap (λ (j : ℕ). take (suc k) ws ++ word ws j ∷ []) one
@@ -105,12 +102,12 @@ module _ (ws : List ℕ) (odd : Bool) (e : file-checked ws odd .number ≡ 0) wh
   same-table : table-words (file-in ws) ≡ table
   same-table = ap (λ (net : Network). total (net .sizes)) (network-is ws)
 
-  spelled : file-words (file-in ws) ≡ ws
+  spelled : file-words (has-level (first-of ws)) (file-in ws) ≡ ws
   unfolding file-words
   spelled =
       let shown : List ℕ = take table (drop (at + 1) ws) in
       let scans : ℕ = word ws (at + 1 + table + 1) in
-      ap₂ (λ (net : Network) (l : List ℕ). words-of net ++ total (net .sizes) ∷ l ++ 1 ∷ file-in ws .run ∷ []) (network-is ws) (image-is ws)
+      ap₂ (λ (net : Network) (l : List ℕ). words-of (has-level (first-of ws)) net ++ total (net .sizes) ∷ l ++ 1 ∷ file-in ws .run ∷ []) (network-is ws) (image-is ws)
       ∙ ap₂ (λ (l : List ℕ) (n : ℕ). l ++ table ∷ shown ++ 1 ∷ n ∷ []) (front-words ws front-fine) (run-is ws)
       ∙ ap₂ (λ (c d : ℕ). take at ws ++ c ∷ shown ++ d ∷ scans ∷ []) (sym image-count) (sym run-count)
       ∙ parts ws at table long
@@ -131,7 +128,7 @@ module _ (ws : List ℕ) (odd : Bool) (e : file-checked ws odd .number ≡ 0) wh
   }
 
 -- ---- the words of a good file
-module _ (f : File) (g : GoodFile f) where
+module _ (with-level : Bool) (f : File) (s : Spellable with-level (f .network)) (g : GoodFile f) where
   abbrev table-of : ℕ
   table-of = table-words f
 
@@ -142,16 +139,16 @@ module _ (f : File) (g : GoodFile f) where
   after = table-of ∷ f .image ++ run-words
 
   abbrev words : List ℕ
-  words = words-of (f .network) ++ after
+  words = words-of with-level (f .network) ++ after
 
   abbrev last : ℕ
-  last = length (words-of (f .network))
+  last = length (words-of with-level (f .network))
 
   abbrev alone : File
   alone = record { network = f .network; image = []; run = 0 }
 
   tail-is : drop last words ≡ after
-  tail-is = drop-append-seam (words-of (f .network)) after
+  tail-is = drop-append-seam (words-of with-level (f .network)) after
 
   run-is-there : section-rest image-section alone after ≡ run-words
   unfolding section-earns image-section
@@ -162,9 +159,9 @@ module _ (f : File) (g : GoodFile f) where
   zeros zero = tt
   zeros (suc n) = (refl, zeros n)
 
-  image-good : (s : List ℕ) → s ≡ run-words → (eqb (first-of s) 1 ≡ true) × Clean (counted most-scans (first-of (drop 1 s)) 3 ∷ [])
+  image-good : (r : List ℕ) → r ≡ run-words → (eqb (first-of r) 1 ≡ true) × Clean (counted most-scans (first-of (drop 1 r)) 3 ∷ [])
   unfolding Clean
-  image-good s e =
+  image-good r e =
       subst (λ (l : List ℕ). (eqb (first-of l) 1 ≡ true) × Clean (counted most-scans (first-of (drop 1 l)) 3 ∷ [])) (sym e)
       (refl, (counted-in most-scans (f .run) 3 (g .run-low) (g .run-high), tt))
 
@@ -178,7 +175,7 @@ module _ (f : File) (g : GoodFile f) where
   whole-long : last + end after-network alone (drop last words) ≡ length words
   whole-long =
       tail-end words alone last
-      ∙ omega (arith, length-append (words-of (f .network)) after, length-append (table-of ∷ f .image) run-words, g .image)
+      ∙ omega (arith, length-append (words-of with-level (f .network)) after, length-append (table-of ∷ f .image) run-words, g .image)
 
   tail-done : tail-at alone words last false ≡ done
   unfolding judged-from
@@ -190,15 +187,15 @@ module _ (f : File) (g : GoodFile f) where
       then-next both (left-over (last + end after-network alone (drop last words)) (length words) false) (ap (λ (v : Verdict). v .number) fine)
       ∙ none-over (last + end after-network alone (drop last words)) (length words) (omega (arith, whole-long))
 
-  pub good-file-done : file-checked (file-words f) false ≡ done
+  pub good-file-done : file-checked (file-words with-level f) false ≡ done
   unfolding file-words
   good-file-done =
-      let fine : front-checked words ≡ done = good-front-done after (f .network) (g .network) in
+      let fine : front-checked words ≡ done = good-front-done after (f .network) with-level s (g .network) in
       let rest-of : Network → ℕ → Verdict = λ net k. tail-at (record { network = net; image = []; run = 0 }) words k false in
-      ap (λ (l : List ℕ). file-checked l false) (append-assoc (words-of (f .network)) (table-of ∷ f .image) run-words)
+      ap (λ (l : List ℕ). file-checked l false) (append-assoc (words-of with-level (f .network)) (table-of ∷ f .image) run-words)
       ∙ checked-is words false
       ∙ then-next (front-checked words) (tail-at (begun-file words) words (network-end words) false) (ap (λ (v : Verdict). v .number) fine)
-      ∙ ap₂ rest-of (spells-front after (f .network)) (end-front after (f .network))
+      ∙ ap₂ rest-of (spells-front after (f .network) with-level s) (end-front after (f .network) with-level)
       ∙ tail-done
 
 pub accepts-files : AcceptsFiles
@@ -206,7 +203,7 @@ accepts-files ws odd = (
   accepted-sound ws odd,
   λ s.
       ap₂ (λ (l : List ℕ) (b : Bool). file-checked l b .number) (sym (s .words)) (s .even)
-      ∙ ap (λ (v : Verdict). v .number) (good-file-done (file-in ws) (s .file)),
+      ∙ ap (λ (v : Verdict). v .number) (good-file-done (has-level (first-of ws)) (file-in ws) (subst (Spellable (has-level (first-of ws))) (sym (network-is ws)) (spellable ws)) (s .file)),
 )
 
 -- a verdict of number 0 is done
@@ -221,4 +218,4 @@ pub no-longer : NoLonger
 no-longer ws odd s =
     let e = accepts-files ws odd .1 s in
     let good = front-good ws (front-fine ws odd e) .1 in
-    omega (arith, long ws odd e, end-is ws, count-is ws, good .few, good .areas .coils, good .areas .discretes, good .areas .inputs, good .areas .holding)
+    omega (arith, long ws odd e, end-is ws, count-is ws, areas-few ws, good .few, good .areas .coils, good .areas .discretes, good .areas .inputs, good .areas .holding)

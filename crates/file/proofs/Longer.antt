@@ -21,25 +21,27 @@ use Rattle.section.proofs.Walk.{then-first, then-next, le-of-not-lt, seek-missi
 use Rattle.section.proofs.Records.{words-count}
 use Rattle.section.proofs.Sections.{some-over}
 use Rattle.table.specs.declared.sizes.Sizes.{Sizes}
-use Rattle.table.specs.Table.{total, sizes-faults}
+use Rattle.table.specs.Table.{total}
 use Rattle.record.specs.Record.{record-words, block-in}
 use Rattle.rules.specs.Fault.{faults}
-use Rattle.network.specs.Check.{most-blocks, sizes-in, areas-section, block-faults, blocks-section, no-network, network-in, network-end, front-checked}
+use Rattle.areas.specs.Areas.{sizes-faults, has-level, area-count, area-words, areas-section, sizes-of, areas-end}
+use Rattle.areas.proofs.Laws.{areas-few, areas-long, areas-alone}
+use Rattle.network.specs.Check.{most-blocks, block-faults, blocks-section, network-in, network-end, front-checked}
 use Rattle.network.proofs.Good.{front-good}
-use Rattle.network.proofs.Networks.{block-faults-long, after-areas, sizes-is, count-is, end-is, areas-refused, areas-passed}
+use Rattle.network.proofs.Networks.{block-faults-long, after-areas, areas-earn, sizes-is, count-is, end-is, areas-refused, areas-passed}
 use Rattle.file.specs.File.{File, table-words, image-section, most-scans, run-section, after-network, file-checked}
 use Rattle.file.specs.Sound.{most-words, LongerSame, PlaceLow}
 use Rattle.file.proofs.Files.{begun-file, tail-at, checked-is, both-is, tail-end}
 
 -- ---- a walk over words that are all there does not look at how many there are, and its place is one of theirs
-walk-same : (fs : List ℕ) (m n i : ℕ) → i + length fs ≤ m → i + length fs ≤ n → seek fs m i ≡ seek fs n i
+pub walk-same : (fs : List ℕ) (m n i : ℕ) → i + length fs ≤ m → i + length fs ≤ n → seek fs m i ≡ seek fs n i
 walk-same [] m n i l u = seek-none m i ∙ sym (seek-none n i)
 walk-same (f ∷ fs) m n i l u = elim (ℕ-discrete f 0) [
   | yes z ↦ seek-next m f fs i (omega arith) z ∙ walk-same fs m n (suc i) (omega arith) (omega arith) ∙ sym (seek-next n f fs i (omega arith) z)
   | no z ↦ seek-fault m f fs i (omega arith) z ∙ sym (seek-fault n f fs i (omega arith) z)
 ]
 
-walk-place : (fs : List ℕ) (size i : ℕ) → seek fs size i .place ≤ i + length fs
+pub walk-place : (fs : List ℕ) (size i : ℕ) → seek fs size i .place ≤ i + length fs
 walk-place [] size i = omega (arith, ap (λ (v : Verdict). v .place) (seek-none size i))
 walk-place (f ∷ fs) size i = elim (decLt i size) [
   | yes h ↦ elim (ℕ-discrete f 0) [
@@ -102,32 +104,34 @@ records-same z (suc n) k a b h =
     ap₂ _++_ (ap (faults z k) (block-same a b (fewer record-words a b (omega arith) h)))
     (records-same z n (suc k) (drop record-words a) (drop record-words b) (agree-from record-words (record-words * n) a b (fewer (record-words + record-words * n) a b (omega arith) h)))
 
-sizes-same : (a b : List ℕ) → Agree 5 a b → sizes-in (drop 1 a) ≡ sizes-in (drop 1 b)
+sizes-same : (a b : List ℕ) → Agree 6 a b → sizes-of a ≡ sizes-of b
 sizes-same a b h =
-    let one = agree-from 1 4 a b h in
-    λ i. record { coils = one 0 (omega arith) i; discretes = one 1 (omega arith) i; inputs = one 2 (omega arith) i; holding = one 3 (omega arith) i }
+    let one = agree-from 1 5 a b h in
+    λ i. record {
+      coils = one 0 (omega arith) i;
+      discretes = one 1 (omega arith) i;
+      inputs = one 2 (omega arith) i;
+      holding = one 3 (omega arith) i;
+      level = cond (has-level (h 0 (omega arith) i)) (one 4 (omega arith) i) 1;
+    }
 
 -- ---- the network at the front
-abbrev areas-earn : List ℕ → List ℕ
-areas-earn ws = section-earns areas-section no-network ws
-
-areas-long : (ws : List ℕ) → length (areas-earn ws) ≡ 5
-unfolding section-earns areas-section sizes-faults
-areas-long ws = refl
-
-areas-same : (a b : List ℕ) → Agree 5 a b → areas-earn a ≡ areas-earn b
+areas-same : (a b : List ℕ) → Agree 6 a b → areas-earn a ≡ areas-earn b
 unfolding section-earns areas-section
 areas-same a b h =
-    ap₂ (λ (w : ℕ) (z : Sizes). cond (eqb w 4) 0 2 ∷ sizes-faults z) (h 0 (omega arith)) (sizes-same a b h)
+    ap₂ (λ (w : ℕ) (z : Sizes). cond (area-count w) 0 2 ∷ take (area-words w) (sizes-faults z)) (h 0 (omega arith)) (sizes-same a b h)
 
 -- what the blocks' words earn, by the sizes, the count and the words after it
 abbrev blocks-by : Sizes → ℕ → List ℕ → List ℕ
 blocks-by z count ws = cond (leb count most-blocks) 0 2 ∷ records-earn record-words (block-faults z) 0 count ws
 
 abbrev blocks-earn : List ℕ → List ℕ
-blocks-earn ws = section-earns blocks-section (after-areas ws) (drop 5 ws)
+blocks-earn ws = section-earns blocks-section (after-areas ws) (drop (areas-end ws) ws)
 
-blocks-are : (ws : List ℕ) → blocks-earn ws ≡ blocks-by (sizes-in (drop 1 ws)) (first-of (drop 5 ws)) (drop 1 (drop 5 ws))
+abbrev blocks-from : ℕ → List ℕ → List ℕ
+blocks-from at ws = blocks-by (sizes-of ws) (first-of (drop at ws)) (drop 1 (drop at ws))
+
+blocks-are : (ws : List ℕ) → blocks-earn ws ≡ blocks-from (areas-end ws) ws
 unfolding section-earns blocks-section
 blocks-are ws = refl
 
@@ -135,37 +139,39 @@ blocks-long : (z : Sizes) (count : ℕ) (ws : List ℕ) → length (blocks-by z 
 blocks-long z count ws = omega (arith, words-count record-words (block-faults z) (block-faults-long z) count 0 ws)
 
 -- a count that is too high is refused whatever follows
-too-many : (z : Sizes) (count : ℕ) (ws : List ℕ) (size : ℕ) → most-blocks < count → 5 < size → seek (blocks-by z count ws) size 5 ≡ verdict 2 6
-too-many z count ws size l u =
-    ap (λ (b : Bool). seek (cond b 0 2 ∷ records-earn record-words (block-faults z) 0 count ws) size 5) (lt-leb count most-blocks l)
-    ∙ seek-fault size 2 (records-earn record-words (block-faults z) 0 count ws) 5 u (λ e. omega arith)
+too-many : (z : Sizes) (count : ℕ) (ws : List ℕ) (size at : ℕ) → most-blocks < count → at < size → seek (blocks-by z count ws) size at ≡ verdict 2 (suc at)
+too-many z count ws size at l u =
+    ap (λ (b : Bool). seek (cond b 0 2 ∷ records-earn record-words (block-faults z) 0 count ws) size at) (lt-leb count most-blocks l)
+    ∙ seek-fault size 2 (records-earn record-words (block-faults z) 0 count ws) at u (λ e. omega arith)
 
-blocks-place : (z : Sizes) (count : ℕ) (ws : List ℕ) (size : ℕ) → seek (blocks-by z count ws) size 5 .place ≤ 1926
-blocks-place z count ws size = elim (decLe count most-blocks) [
-  | yes l ↦ omega (arith, walk-place (blocks-by z count ws) size 5, blocks-long z count ws)
-  | no l ↦ elim (decLt 5 size) [
-    | yes u ↦ omega (arith, ap (λ (v : Verdict). v .place) (too-many z count ws size (lt-of-not-le l) u))
+blocks-place : (z : Sizes) (count : ℕ) (ws : List ℕ) (size at : ℕ) → at ≤ 6 → seek (blocks-by z count ws) size at .place ≤ 1927
+blocks-place z count ws size at few = elim (decLe count most-blocks) [
+  | yes l ↦ omega (arith, walk-place (blocks-by z count ws) size at, blocks-long z count ws)
+  | no l ↦ elim (decLt at size) [
+    | yes u ↦ omega (arith, ap (λ (v : Verdict). v .place) (too-many z count ws size at (lt-of-not-le l) u))
     | no u ↦
         omega (
           arith,
-          ap (λ (v : Verdict). v .place) (seek-missing size (cond (leb count most-blocks) 0 2) (records-earn record-words (block-faults z) 0 count ws) 5 (le-of-not-lt u)),
+          ap (λ (v : Verdict). v .place) (seek-missing size (cond (leb count most-blocks) 0 2) (records-earn record-words (block-faults z) 0 count ws) at (le-of-not-lt u)),
         )
   ]
 ]
 
-front-place : (ws : List ℕ) → front-checked ws .place ≤ 1926
+front-place : (ws : List ℕ) → front-checked ws .place ≤ 1927
 front-place ws =
+    let at : ℕ = areas-end ws in
     let areas : Verdict = seek (areas-earn ws) (length ws) 0 in
-    let blocks : Verdict = seek (blocks-earn ws) (length ws) 5 in
+    let blocks : Verdict = seek (blocks-earn ws) (length ws) at in
     elim (ℕ-discrete (areas .number) 0) [
       | yes z ↦
           omega (
             arith,
-            ap (λ (v : Verdict). v .place) (areas-passed ws refl z (λ i. blocks)),
-            ap (λ (l : List ℕ). seek l (length ws) 5 .place) (blocks-are ws),
-            blocks-place (sizes-in (drop 1 ws)) (first-of (drop 5 ws)) (drop 1 (drop 5 ws)) (length ws),
+            ap (λ (v : Verdict). v .place) (areas-passed ws (areas-alone ws) z (λ i. blocks)),
+            ap (λ (l : List ℕ). seek l (length ws) at .place) (blocks-are ws),
+            blocks-place (sizes-of ws) (first-of (drop at ws)) (drop 1 (drop at ws)) (length ws) at (areas-few ws),
           )
-      | no z ↦ omega (arith, ap (λ (v : Verdict). v .place) (areas-refused ws refl z), walk-place (areas-earn ws) (length ws) 0, areas-long ws)
+      | no z ↦
+          omega (arith, ap (λ (v : Verdict). v .place) (areas-refused ws (areas-alone ws) z), walk-place (areas-earn ws) (length ws) 0, areas-long ws, areas-few ws)
     ]
 
 -- ---- the image and the run: what their words earn, by the words of the image and three words
@@ -207,54 +213,68 @@ module _ (ws : List ℕ) (e : front-checked ws .number ≡ 0) where
   near : network-end ws + 1 + total (network-in ws .sizes) + 2 ≤ most-words
   near =
       let good = front-good ws e .1 in
-      omega (arith, end-is ws, count-is ws, good .few, good .areas .coils, good .areas .discretes, good .areas .inputs, good .areas .holding)
+      omega (arith, end-is ws, count-is ws, areas-few ws, good .few, good .areas .coils, good .areas .discretes, good .areas .inputs, good .areas .holding)
 
 -- ---- two lists of words
 module _ (a b : List ℕ) (la : most-words + 1 ≤ length a) (lb : most-words + 1 ≤ length b) (h : Agree (most-words + 1) a b) where
-  five : Agree 5 a b
-  five = fewer 5 a b (omega arith) h
+  six : Agree 6 a b
+  six = fewer 6 a b (omega arith) h
 
-  same-sizes : sizes-in (drop 1 a) ≡ sizes-in (drop 1 b)
-  same-sizes = sizes-same a b five
+  same-sizes : sizes-of a ≡ sizes-of b
+  same-sizes = sizes-same a b six
 
-  from-count : Agree 12692 (drop 5 a) (drop 5 b)
-  from-count = agree-from 5 12692 a b h
+  abbrev at : ℕ
+  at = areas-end a
+
+  same-at : at ≡ areas-end b
+  same-at = ap (λ (count : ℕ). 1 + area-words count) (h 0 (omega arith))
+
+  from-count : Agree 12692 (drop at a) (drop at b)
+  from-count = agree-from at 12692 a b (fewer (at + 12692) a b (omega (arith, areas-few a)) h)
 
   same-areas : seek (areas-earn a) (length a) 0 ≡ seek (areas-earn b) (length b) 0
   same-areas =
-      walk-same (areas-earn a) (length a) (length b) 0 (omega (arith, areas-long a)) (omega (arith, areas-long a))
-      ∙ ap (λ (fs : List ℕ). seek fs (length b) 0) (areas-same a b five)
+      walk-same (areas-earn a) (length a) (length b) 0 (omega (arith, areas-long a, areas-few a)) (omega (arith, areas-long a, areas-few a))
+      ∙ ap (λ (fs : List ℕ). seek fs (length b) 0) (areas-same a b six)
 
-  same-blocks : seek (blocks-earn a) (length a) 5 ≡ seek (blocks-earn b) (length b) 5
+  same-blocks : seek (blocks-earn a) (length a) at ≡ seek (blocks-earn b) (length b) (areas-end b)
   same-blocks =
-      let count : ℕ = first-of (drop 5 a) in
-      let z : Sizes = sizes-in (drop 1 a) in
-      let after : List ℕ = drop 1 (drop 5 a) in
-      let after′ : List ℕ = drop 1 (drop 5 b) in
-      let same-count : count ≡ first-of (drop 5 b) = from-count 0 (omega arith) in
+      let count : ℕ = first-of (drop at a) in
+      let z : Sizes = sizes-of a in
+      let after : List ℕ = drop 1 (drop at a) in
+      let after′ : List ℕ = drop 1 (drop at b) in
+      let same-count : count ≡ first-of (drop at b) = from-count 0 (omega arith) in
       let long = blocks-long z count after in
-      ap (λ (fs : List ℕ). seek fs (length a) 5) (blocks-are a)
+      let few = areas-few a in
+      ap (λ (fs : List ℕ). seek fs (length a) at) (blocks-are a)
       ∙ elim (decLe count most-blocks) [
         | yes l ↦
-            walk-same (blocks-by z count after) (length a) (length b) 5 (omega (arith, long)) (omega (arith, long))
-            ∙ ap (λ (fs : List ℕ). seek (cond (leb count most-blocks) 0 2 ∷ fs) (length b) 5)
-            (records-same z count 0 after after′ (fewer (record-words * count) after after′ (omega arith) (agree-from 1 12691 (drop 5 a) (drop 5 b) from-count)))
-        | no l ↦ too-many z count after (length a) (lt-of-not-le l) (omega arith) ∙ sym (too-many z count after′ (length b) (lt-of-not-le l) (omega arith))
+            walk-same (blocks-by z count after) (length a) (length b) at (omega (arith, long, few)) (omega (arith, long, few))
+            ∙ ap (λ (fs : List ℕ). seek (cond (leb count most-blocks) 0 2 ∷ fs) (length b) at)
+            (records-same z count 0 after after′ (fewer (record-words * count) after after′ (omega arith) (agree-from 1 12691 (drop at a) (drop at b) from-count)))
+        | no l ↦
+            too-many z count after (length a) at (lt-of-not-le l) (omega (arith, few))
+            ∙ sym (too-many z count after′ (length b) at (lt-of-not-le l) (omega (arith, few)))
       ]
-      ∙ ap₂ (λ (x : Sizes) (n : ℕ). seek (blocks-by x n after′) (length b) 5) same-sizes same-count
-      ∙ sym (ap (λ (fs : List ℕ). seek fs (length b) 5) (blocks-are b))
+      ∙ ap₂ (λ (x : Sizes) (n : ℕ). seek (blocks-by x n after′) (length b) at) same-sizes same-count
+      ∙ ap (λ (k : ℕ). seek (blocks-from k b) (length b) k) same-at
+      ∙ sym (ap (λ (fs : List ℕ). seek fs (length b) (areas-end b)) (blocks-are b))
 
   same-front : front-checked a ≡ front-checked b
   same-front = elim (ℕ-discrete (seek (areas-earn a) (length a) 0 .number) 0) [
     | yes z ↦
-        sym (areas-passed a refl z (λ i. seek (blocks-earn a) (length a) 5))
+        sym (areas-passed a (areas-alone a) z (λ i. seek (blocks-earn a) (length a) at))
         ∙ same-blocks
-        ∙ areas-passed b refl (ap (λ (v : Verdict). v .number) (sym same-areas) ∙ z) (λ i. seek (blocks-earn b) (length b) 5)
-    | no z ↦ sym (areas-refused a refl z) ∙ same-areas ∙ areas-refused b refl (λ q. z (ap (λ (v : Verdict). v .number) same-areas ∙ q))
+        ∙ areas-passed b (areas-alone b) (ap (λ (v : Verdict). v .number) (sym same-areas) ∙ z) (λ i. seek (blocks-earn b) (length b) (areas-end b))
+    | no z ↦ sym (areas-refused a (areas-alone a) z) ∙ same-areas ∙ areas-refused b (areas-alone b) (λ q. z (ap (λ (v : Verdict). v .number) same-areas ∙ q))
   ]
 
   same-end : network-end a ≡ network-end b
-  same-end = end-is a ∙ ap (λ (n : ℕ). 6 + record-words * n) (h 5 (omega arith)) ∙ sym (end-is b)
+  same-end =
+      end-is a
+      ∙ ap (λ (n : ℕ). at + 1 + record-words * n) (h at (omega (arith, areas-few a)))
+      ∙ ap (λ (k : ℕ). k + 1 + record-words * word b k) same-at
+      ∙ sym (end-is b)
 
   same-table : total (network-in a .sizes) ≡ total (network-in b .sizes)
   same-table = ap total (sizes-is a ∙ same-sizes ∙ sym (sizes-is b))
@@ -269,15 +289,15 @@ module _ (a b : List ℕ) (la : most-words + 1 ≤ length a) (lb : most-words + 
   same-tail : (odd odd′ : Bool) → front-checked a .number ≡ 0
       → tail-at (begun-file a) a (network-end a) odd ≡ tail-at (begun-file b) b (network-end b) odd′
   same-tail odd odd′ e =
-      let at : ℕ = network-end a in
+      let last : ℕ = network-end a in
       let table : ℕ = total (network-in a .sizes) in
-      let next : ℕ = at + 1 + table in
+      let next : ℕ = last + 1 + table in
       let close = near a e in
-      let x = same-word at (omega arith) in
+      let x = same-word last (omega arith) in
       let y = same-word next (omega arith) in
       let w = same-second next (omega arith) in
-      tail-is (begun-file a) a at odd (omega arith)
-      ∙ (λ i. tail-verdict table at (x i) (y i) (w i))
+      tail-is (begun-file a) a last odd (omega arith)
+      ∙ (λ i. tail-verdict table last (x i) (y i) (w i))
       ∙ ap₂ (λ (n k : ℕ). tail-verdict n k (first-of (drop k b)) (first-of (drop (k + 1 + n) b)) (first-of (drop 1 (drop (k + 1 + n) b)))) same-table same-end
       ∙ sym (tail-is (begun-file b) b (network-end b) odd′ (omega (arith, same-table, same-end)))
 

@@ -87,10 +87,10 @@ opened-file-with ws v = record {
 abbrev pub opened-file : Words → Bool → OpenedFile
 opened-file ws odd = opened-file-with ws (file-checked ws odd)
 
--- ---- what the code may rely on, whatever the words are: a network ends at 6 + 15 * 65535 at the latest, and four areas have
+-- ---- what the code may rely on, whatever the words are: a network ends at 7 + 15 * 65535 at the latest, and four areas have
 -- 4 * 65535 words at most
 abbrev pub last-end : ℕ
-last-end = 983031
+last-end = 983032
 
 abbrev pub largest-table : ℕ
 largest-table = 262140

@@ -1,23 +1,26 @@
 -- The checker accepts exactly the words of good networks: a network's words spell it, and the words at the front of which a network is
 -- accepted begin with its words. Assumes nothing.
 use mathlib.Core.Path.{_≡_, refl, sym, ap, ap₂, _∙_, subst⁻¹}
+use mathlib.Core.Bool.{Bool, true, false, cond}
 use mathlib.Core.List.{List, [], _∷_, _++_, flatMap, append-assoc, append-nil}
 use Prim.Native.Nat.{ℕ, zero, suc, _+_, _*_, _≤_}
 use native.Mathlib.Omega.{arith}
 use lib.ListN.{length, take, drop, length-append, length-drop}
 use lib.Seq.{take-at, take-add, take-all, length-take-le}
 use Rattle.verdict.specs.declared.Verdict.{Verdict}
-use Rattle.section.specs.Walk.{word}
+use Rattle.section.specs.Walk.{word, first-of}
 use Rattle.verdict.specs.Verdict.{done}
 use Rattle.section.specs.Section.{section-earns, meaning, records-in}
+use Rattle.section.proofs.Words.{one-more}
 use Rattle.table.specs.declared.sizes.Sizes.{Sizes}
-use Rattle.table.specs.Table.{sizes-faults}
+use Rattle.areas.specs.Areas.{sizes-faults, has-level, area-count, areas-section, areas-spelled, areas-end}
+use Rattle.areas.proofs.Laws.{areas-front}
 use Rattle.record.specs.declared.Block.{Block}
 use Rattle.record.specs.Record.{record-words, block-in, spelled}
 use Rattle.record.proofs.Words.{spelled-long, spelled-back, spelled-rest, fifteen}
 use Rattle.network.specs.Network.{Network, block-count, words-of}
-use Rattle.network.specs.Check.{sizes-in, areas-section, blocks-section, network-in, network-end, front-checked, checked, leading, opened}
-use Rattle.network.specs.Sound.{GoodNetwork, Sound, AcceptsExactly, SpellsBack}
+use Rattle.network.specs.Check.{blocks-section, network-in, network-end, front-checked, checked, leading, opened}
+use Rattle.network.specs.Sound.{GoodNetwork, Sound, AcceptsExactly, Spellable, SpellsBack}
 use Rattle.network.proofs.Good.{front-good, good-front, good-whole, whole-front}
 use Rattle.network.proofs.Networks.{sizes-is, blocks-are, count-is, end-is, front-done}
 
@@ -37,32 +40,53 @@ module _ (after : List ℕ) where
       ap₂ _∷_ (ap block-in here ∙ spelled-back b rest)
       (ap (records-in record-words block-in (length bs)) (ap (drop record-words) here ∙ spelled-rest b rest) ∙ blocks-back bs)
 
-  pub spells-front : (net : Network) → network-in (words-of net ++ after) ≡ net
-  unfolding network-in meaning areas-section blocks-section section-earns sizes-faults words-of
-  spells-front net = λ i. record { sizes = net .sizes; blocks = blocks-back (net .blocks) i }
+  module _ (net : Network) where
+    pub spells-front : (with-level : Bool) → Spellable with-level net → network-in (words-of with-level net ++ after) ≡ net
+    unfolding network-in meaning areas-section blocks-section section-earns sizes-faults words-of
+    spells-front true s = λ i. record { sizes = net .sizes; blocks = blocks-back (net .blocks) i }
+    spells-front false s = λ i. record {
+      sizes = record {
+        coils = net .sizes .coils;
+        discretes = net .sizes .discretes;
+        inputs = net .sizes .inputs;
+        holding = net .sizes .holding;
+        level = sym (s refl) i;
+      };
+      blocks = blocks-back (net .blocks) i;
+    }
 
-  pub end-front : (net : Network) → network-end (words-of net ++ after) ≡ length (words-of net)
-  unfolding words-of
-  end-front net = end-is (words-of net ++ after) ∙ omega (arith, blocks-long (net .blocks))
+    -- the first word says whether the level is among them
+    pub level-front : (with-level : Bool) → has-level (first-of (words-of with-level net ++ after)) ≡ with-level
+    unfolding words-of
+    level-front true = refl
+    level-front false = refl
 
-  four : (net : Network) → word (words-of net ++ after) 0 ≡ 4
-  unfolding words-of
-  four net = refl
+    count-front : (with-level : Bool) → area-count (first-of (words-of with-level net ++ after)) ≡ true
+    unfolding words-of
+    count-front true = refl
+    count-front false = refl
 
-  pub good-front-done : (net : Network) → GoodNetwork net → front-checked (words-of net ++ after) ≡ done
-  good-front-done net g =
-      good-front (words-of net ++ after) (four net) (subst⁻¹ GoodNetwork (spells-front net) g)
-      (omega (arith, end-front net, length-append (words-of net) after))
+    pub end-front : (with-level : Bool) → network-end (words-of with-level net ++ after) ≡ length (words-of with-level net)
+    unfolding words-of
+    end-front true = end-is (words-of true net ++ after) ∙ omega (arith, blocks-long (net .blocks))
+    end-front false = end-is (words-of false net ++ after) ∙ omega (arith, blocks-long (net .blocks))
+
+    pub good-front-done : (with-level : Bool) → Spellable with-level net → GoodNetwork net → front-checked (words-of with-level net ++ after) ≡ done
+    good-front-done with-level s g =
+        good-front (words-of with-level net ++ after) (count-front with-level) (subst⁻¹ GoodNetwork (spells-front with-level s) g)
+        (omega (arith, end-front with-level, length-append (words-of with-level net) after))
 
 pub spells-back : SpellsBack
-spells-back net = ap network-in (sym (append-nil (words-of net))) ∙ spells-front [] net
+spells-back with-level net s = ap network-in (sym (append-nil (words-of with-level net))) ∙ spells-front [] net with-level s
 
-pub words-end : (net : Network) → network-end (words-of net) ≡ length (words-of net)
-words-end net = ap network-end (sym (append-nil (words-of net))) ∙ end-front [] net
+pub words-end : (with-level : Bool) (net : Network) → network-end (words-of with-level net) ≡ length (words-of with-level net)
+words-end with-level net = ap network-end (sym (append-nil (words-of with-level net))) ∙ end-front [] net with-level
 
-pub good-accepted : (net : Network) → GoodNetwork net → checked (words-of net) ≡ done
-unfolding words-of
-good-accepted net g = good-whole (words-of net) refl (subst⁻¹ GoodNetwork (spells-back net) g) (sym (words-end net))
+pub good-accepted : (with-level : Bool) (net : Network) → Spellable with-level net → GoodNetwork net → checked (words-of with-level net) ≡ done
+good-accepted with-level net s g =
+    let all : List ℕ = words-of with-level net in
+    good-whole all (ap (λ (l : List ℕ). area-count (first-of l)) (sym (append-nil all)) ∙ count-front [] net with-level)
+    (subst⁻¹ GoodNetwork (spells-back with-level net s) g) (sym (words-end with-level net))
 
 -- ---- the words at the front of others
 records-front : (n : ℕ) (ws : List ℕ) → record-words * n ≤ length ws → flatMap spelled (records-in record-words block-in n ws) ≡ take (record-words * n) ws
@@ -78,48 +102,42 @@ records-front (suc n) ws u =
     ∙ sym (take-add record-words (record-words * n) ws)
     ∙ ap (λ (k : ℕ). take k ws) more
 
--- the six words before the blocks
-before-blocks : Sizes → ℕ → List ℕ → List ℕ
-before-blocks z count rest = 4 ∷ z .coils ∷ z .discretes ∷ z .inputs ∷ z .holding ∷ count ∷ rest
-
-six : (ws : List ℕ) (k : ℕ) → 6 ≤ length ws → word ws 0 ≡ 4 → before-blocks (sizes-in (drop 1 ws)) (word ws 5) (take k (drop 6 ws)) ≡ take (suc (suc (suc (suc (suc (suc k)))))) ws
-unfolding before-blocks
-six (a ∷ b ∷ c ∷ d ∷ e ∷ f ∷ ws) k u h = ap (λ (x : ℕ). x ∷ b ∷ c ∷ d ∷ e ∷ f ∷ take k ws) (sym h)
-six (a ∷ b ∷ c ∷ d ∷ e ∷ []) k u h = absurd (omega arith)
-six (a ∷ b ∷ c ∷ d ∷ []) k u h = absurd (omega arith)
-six (a ∷ b ∷ c ∷ []) k u h = absurd (omega arith)
-six (a ∷ b ∷ []) k u h = absurd (omega arith)
-six (a ∷ []) k u h = absurd (omega arith)
-six [] k u h = absurd (omega arith)
-
-pub front-words : (ws : List ℕ) → front-checked ws .number ≡ 0 → words-of (network-in ws) ≡ take (network-end ws) ws
-unfolding words-of before-blocks
+pub front-words : (ws : List ℕ) → front-checked ws .number ≡ 0 → words-of (has-level (first-of ws)) (network-in ws) ≡ take (network-end ws) ws
+unfolding words-of
 front-words ws e =
     let all = front-good ws e in
-    let last : network-end ws ≡ 6 + record-words * word ws 5 = end-is ws in
+    let at : ℕ = areas-end ws in
+    let count : ℕ = word ws at in
+    let last : network-end ws ≡ at + 1 + record-words * count = end-is ws in
     let fits : network-end ws ≤ length ws = all .2 in
-    let to : suc (suc (suc (suc (suc (suc (record-words * word ws 5)))))) ≡ network-end ws = omega (arith, last) in
-    ap₂ (λ (z : Sizes) (c : ℕ). before-blocks z c (flatMap spelled (network-in ws .blocks))) (sizes-is ws) (count-is ws)
-    ∙ ap (before-blocks (sizes-in (drop 1 ws)) (word ws 5))
-    (ap (flatMap spelled) (blocks-are ws) ∙ records-front (word ws 5) (drop 6 ws) (omega (arith, fits, last, length-drop 6 ws)))
-    ∙ six ws (record-words * word ws 5) (omega (arith, fits, last)) (all .0)
-    ∙ ap (λ (k : ℕ). take k ws) to
+    let records : flatMap spelled (network-in ws .blocks) ≡ take (record-words * count) (drop (at + 1) ws) =
+    ap (flatMap spelled) (blocks-are ws) ∙ records-front count (drop (at + 1) ws) (omega (arith, fits, last, length-drop (at + 1) ws)) in
+    ap₂ (λ (z : Sizes) (c : ℕ). areas-spelled (has-level (first-of ws)) z ++ c ∷ flatMap spelled (network-in ws .blocks)) (sizes-is ws) (count-is ws)
+    ∙ ap₂ (λ (l m : List ℕ). l ++ count ∷ m) (areas-front ws (all .0) (omega (arith, fits, last))) records
+    ∙ one-more ws at (record-words * count) (omega (arith, fits, last))
+    ∙ ap (λ (k : ℕ). take k ws) (sym last)
+
+-- Level 1 alone may be left out of the words that spell it
+pub spellable : (ws : List ℕ) → Spellable (has-level (first-of ws)) (network-in ws)
+spellable ws e = ap (λ (z : Sizes). z .level) (sizes-is ws) ∙ ap (λ (b : Bool). cond b (word (drop 1 ws) 4) 1) e
 
 -- they are a network of their own, which is the same and opens as it does at the front
 pub front-network : (ws : List ℕ) → front-checked ws .number ≡ 0 → network-in (take (network-end ws) ws) ≡ network-in ws
-front-network ws e = ap network-in (sym (front-words ws e)) ∙ spells-back (network-in ws)
+front-network ws e = ap network-in (sym (front-words ws e)) ∙ spells-back (has-level (first-of ws)) (network-in ws) (spellable ws)
 
 pub front-opens : (ws : List ℕ) → front-checked ws .number ≡ 0 → opened (take (network-end ws) ws) ≡ leading ws
 front-opens ws e =
     let net : Network = network-in ws in
+    let level : Bool = has-level (first-of ws) in
+    let back = spells-back level net (spellable ws) in
     let all = front-good ws e in
-    let long : network-end ws ≡ length (words-of net) = sym (ap length (front-words ws e) ∙ length-take-le (network-end ws) ws (all .2)) in
+    let long : network-end ws ≡ length (words-of level net) = sym (ap length (front-words ws e) ∙ length-take-le (network-end ws) ws (all .2)) in
     ap opened (sym (front-words ws e))
     ∙ λ i. record {
-      verdict = (good-accepted net (all .1) ∙ sym (front-done ws e)) i;
-      sizes = spells-back net i .sizes;
-      count = block-count (spells-back net i);
-      next = (words-end net ∙ sym long) i;
+      verdict = (good-accepted level net (spellable ws) (all .1) ∙ sym (front-done ws e)) i;
+      sizes = back i .sizes;
+      count = block-count (back i);
+      next = (words-end level net ∙ sym long) i;
     }
 
 -- ---- all of the words
@@ -134,5 +152,5 @@ accepted-sound ws e =
 pub accepts-exactly : AcceptsExactly
 accepts-exactly ws = (
   accepted-sound ws,
-  λ s. ap (λ (l : List ℕ). checked l .number) (sym (s .words)) ∙ ap (λ (v : Verdict). v .number) (good-accepted (network-in ws) (s .network)),
+  λ s. ap (λ (l : List ℕ). checked l .number) (sym (s .words)) ∙ ap (λ (v : Verdict). v .number) (good-accepted (has-level (first-of ws)) (network-in ws) (spellable ws) (s .network)),
 )

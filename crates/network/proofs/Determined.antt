@@ -3,6 +3,7 @@
 use mathlib.Core.Path.{sym, _∙_}
 use Rattle.verdict.specs.Promise.{Decides}
 use Rattle.network.proofs.ReadAt.{said-once}
+use Rattle.network.proofs.checker.block_count.Reads as block-count-reads
 use Rattle.network.proofs.checker.check.Reads as check-reads
 use Rattle.network.proofs.checker.leading.Reads as leading-reads
 use Rattle.network.proofs.checker.opening.Reads as opening-reads
@@ -11,6 +12,9 @@ use Rattle.network.proofs.checker.Opened.sizes.Reads as opened-sizes-re
 use Rattle.network.proofs.checker.Opened.count.Reads as opened-count-reads
 use Rattle.network.proofs.checker.Opened.next.Reads as opened-next-reads
 use Rattle.network.proofs.reading.record_at.Reads as record-at-reads
+
+pub block-count : Decides block-count-reads.Post
+block-count κs a x y s t p q = p ∙ sym q
 
 pub check : Decides check-reads.Post
 check κs a x y s t p q = p ∙ sym q

@@ -37,13 +37,13 @@ module _ (ws : List ℕ) (o : Opened) (k : ℕ) where
   unfolding read-verdict
   by-tests fine given p q = ap₂ (λ (x y : Bool). cond x (cond y done (verdict 12 0)) (o .verdict)) p q
 
-  says : {v : Verdict} → read-verdict o k (length ws) ≡ v → read-at ws o k ≡ said-by v (block-in (drop (record-start (k - 1)) ws))
+  says : {v : Verdict} → read-verdict o k (length ws) ≡ v → read-at ws o k ≡ said-by v (block-in (drop (record-start ws (k - 1)) ws))
   unfolding read-at
-  says e = ap (λ (v : Verdict). said-by v (block-in (drop (record-start (k - 1)) ws))) e
+  says e = ap (λ (v : Verdict). said-by v (block-in (drop (record-start ws (k - 1)) ws))) e
 
   refuses : {v : Verdict} → (v .number ≡ 0 → ⊥) → read-verdict o k (length ws) ≡ v → read-at ws o k ≡ record-said (Refused v)
   refuses {v} h e =
-      says e ∙ ap (λ (b : Bool). record { verdict = v; value = cond b (some (block-in (drop (record-start (k - 1)) ws))) none }) (ne-eqb (v .number) 0 h)
+      says e ∙ ap (λ (b : Bool). record { verdict = v; value = cond b (some (block-in (drop (record-start ws (k - 1)) ws))) none }) (ne-eqb (v .number) 0 h)
 
   pub read-refused : (o .verdict .number ≡ 0 → ⊥) → read-at ws o k ≡ record-said (Refused (o .verdict))
   read-refused h = refuses h (by-tests false _ (ne-eqb (o .verdict .number) 0 h) refl)
@@ -57,5 +57,5 @@ module _ (ws : List ℕ) (o : Opened) (k : ℕ) where
       (by-tests true false (eq-eqb (o .verdict .number) 0 e) (ap₂ _&&_ (in-count (o .count) k l u) (lt-leb (o .next) (length ws) s)))
 
   pub read-record : o .verdict .number ≡ 0 → 1 ≤ k → k ≤ o .count → o .next ≤ length ws
-      → read-at ws o k ≡ record-said (Record (block-in (drop (record-start (k - 1)) ws)))
+      → read-at ws o k ≡ record-said (Record (block-in (drop (record-start ws (k - 1)) ws)))
   read-record e l u t = says (by-tests true true (eq-eqb (o .verdict .number) 0 e) (ap₂ _&&_ (in-count (o .count) k l u) (le-leb (o .next) (length ws) t)))

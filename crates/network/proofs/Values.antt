@@ -33,5 +33,5 @@ reads-block ws o k e h l =
     let n : k + 1 - 1 ≡ k = omega arith in
     ap (λ (x : Opened). read-at ws x (k + 1)) e
     ∙ read-record ws (opened ws) (k + 1) h (omega arith) (omega (arith, l)) (omega (arith, whole-front ws h .1))
-    ∙ ap (λ (i : ℕ). said-by done (block-in (drop (record-start i) ws))) n
+    ∙ ap (λ (i : ℕ). said-by done (block-in (drop (record-start ws i) ws))) n
     ∙ ap (said-by done) (sym (block-is ws k l))

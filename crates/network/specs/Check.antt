@@ -1,34 +1,33 @@
 -- The checker (document 01, "Numbers returned"): words are checked from the first on, each when it is reached. A network is two
 -- sections, the areas and the blocks. Assumes nothing.
 use Prim.Native.Nat.{ℕ, _+_, _-_, _*_}
+use mathlib.Core.Path.{refl}
 use mathlib.Core.Bool.{false, cond, _&&_}
 use mathlib.Core.List.{List, [], _∷_}
 use mathlib.Core.Option.{none}
-use lib.Dec.{leb, eqb}
+use lib.Dec.{leb}
 use lib.ListN.{length, drop}
 use Rattle.verdict.specs.Lists.{Words}
 use Rattle.verdict.specs.declared.Verdict.{Verdict}
-use Rattle.section.specs.Walk.{word}
 use Rattle.verdict.specs.Verdict.{verdict, done, then}
 use Rattle.verdict.specs.Said.{Said, said-by}
-use Rattle.section.specs.Section.{Section, meaning, end, front, whole, records-earn, records-in}
+use Rattle.section.specs.Section.{Section, meaning, end, front, whole, records-earn, records-in, Part, lifted}
 use Rattle.table.specs.declared.sizes.Sizes.{Sizes}
-use Rattle.table.specs.Table.{sizes-faults}
+use Rattle.areas.specs.Areas.{areas-section, areas-end, no-sizes}
 use Rattle.record.specs.declared.Block.{Block}
 use Rattle.record.specs.Record.{record-words, block-in}
 use Rattle.rules.specs.Fault.{faults}
 use Rattle.network.specs.declared.{checker.Opened.Opened, reading.Read.Read, reading.Read.the-variants.Record, reading.Read.the-variants.Refused}
 use Rattle.network.specs.Network.{Network, areas-only, block-count}
 
--- ---- the areas: count 4, then the four sizes in words, each up to its limit (3)
-abbrev pub sizes-in : Words → Sizes
-sizes-in ws = record { coils = word ws 0; discretes = word ws 1; inputs = word ws 2; holding = word ws 3 }
-
-unfoldable pub areas-section : Section Network
-areas-section = record {
-  allows = λ net count. eqb count 4;
-  earns = λ net count ws. sizes-faults (sizes-in ws);
-  spells = λ net count ws. record { sizes = sizes-in ws; blocks = net .blocks };
+-- ---- the areas spell the network's sizes
+abbrev pub sizes-part : Part Sizes Network
+sizes-part = record {
+  get = λ net. net .sizes;
+  put = λ z net. record { sizes = z; blocks = net .blocks };
+  get-put = λ z net. refl;
+  put-get = λ net. refl;
+  put-put = λ x y net. refl;
 }
 
 -- ---- the blocks: count 0 to 128, then 15 words for each block, which earn by the sizes and by how many blocks are earlier
@@ -47,10 +46,10 @@ blocks-section = record {
 
 -- ---- a network
 abbrev pub sections : List (Section Network)
-sections = areas-section ∷ blocks-section ∷ []
+sections = lifted sizes-part areas-section ∷ blocks-section ∷ []
 
 abbrev pub no-network : Network
-no-network = areas-only (sizes-in [])
+no-network = areas-only no-sizes
 
 -- the network that the words spell, whatever they earn, and where its words end
 unfoldable pub network-in : Words → Network
@@ -85,12 +84,12 @@ record-said (Refused v) = record { verdict = v; value = none }
 unfoldable pub read-verdict : Opened → ℕ → ℕ → Verdict
 read-verdict o k size = then (o .verdict) (cond (leb 1 k && leb k (o .count) && leb (o .next) size) done (verdict 12 0))
 
--- the record's words stand after the areas, the count and the earlier blocks
-abbrev pub record-start : ℕ → ℕ
-record-start earlier = 6 + record-words * earlier
+-- a record's words stand after the areas, the count of the blocks and the earlier blocks
+abbrev pub record-start : Words → ℕ → ℕ
+record-start ws earlier = areas-end ws + 1 + record-words * earlier
 
 unfoldable pub read-at : Words → Opened → ℕ → Said Block
-read-at ws o k = said-by (read-verdict o k (length ws)) (block-in (drop (record-start (k - 1)) ws))
+read-at ws o k = said-by (read-verdict o k (length ws)) (block-in (drop (record-start ws (k - 1)) ws))
 
 abbrev pub read : Words → ℕ → Said Block
 read ws k = read-at ws (opened ws) k

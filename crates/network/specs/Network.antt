@@ -1,9 +1,12 @@
--- A network as a value (document 01, "A network in words"): the sizes of its areas, and its blocks in order. Assumes nothing.
+-- A network as a value (document 01, "A network in words"): the sizes of its areas with the level, and its blocks in order.
+-- Assumes nothing.
 use Prim.Native.Nat.{ℕ}
-use mathlib.Core.List.{List, [], _∷_, flatMap}
+use mathlib.Core.Bool.{Bool}
+use mathlib.Core.List.{List, [], _∷_, _++_, flatMap}
 use lib.ListN.{length, getD}
 use Rattle.verdict.specs.Lists.{Words}
 use Rattle.table.specs.declared.sizes.Sizes.{Sizes}
+use Rattle.areas.specs.Areas.{areas-spelled}
 use Rattle.record.specs.declared.Block.{Block}
 use Rattle.record.specs.Record.{block-in, spelled}
 
@@ -26,8 +29,7 @@ no-block = block-in []
 abbrev pub block-of : Network → ℕ → Block
 block-of net k = getD (net .blocks) k no-block
 
--- its words: the areas, then the blocks, each section after its count
-unfoldable pub words-of : Network → Words
-words-of net =
-    4 ∷ net .sizes .coils ∷ net .sizes .discretes ∷ net .sizes .inputs ∷ net .sizes .holding
-    ∷ block-count net ∷ flatMap spelled (net .blocks)
+-- its words, with the level or without it: the areas, then the blocks, each section after its count
+unfoldable pub words-of : Bool → Network → Words
+unfolding areas-spelled
+words-of with-level net = areas-spelled with-level (net .sizes) ++ block-count net ∷ flatMap spelled (net .blocks)

@@ -6,6 +6,7 @@ mod reading;
 
 pub use checker::MOST_BLOCKS;
 pub use checker::Opened;
+pub use checker::block_count;
 pub use checker::check;
 pub use checker::leading;
 pub use checker::opening;

@@ -1,5 +1,6 @@
 // The record of block k.
 use crate::checker::Opened;
+use areas::areas_end;
 use record::Block;
 use record::block_at;
 use verdict::Verdict;
@@ -41,5 +42,5 @@ pub fn record_at(words: &[u16], o: Opened, k: usize) -> Read
             place: 0,
         });
     }
-    Read::Record(block_at(words, 6 + 15 * (k - 1) as u32))
+    Read::Record(block_at(words, areas_end(words) + 1 + 15 * (k - 1) as u32))
 }

@@ -14,10 +14,8 @@ use Rattle.verdict.specs.declared.Verdict.{Verdict}
 use Rattle.verdict.specs.Promise.{LeavesTwo}
 use Rattle.table.specs.Table.{total}
 use Rattle.network.specs.Network.{block-count}
-use Rattle.section.specs.Walk.{word}
 use Rattle.verdict.specs.Verdict.{verdict, done}
 use Rattle.network.specs.Check.{checked, network-in}
-use Rattle.network.proofs.Networks.{count-is}
 use Rattle.network.proofs.Values.{accepted-good}
 use Rattle.blocks.specs.declared.Outputs.{Outputs}
 use Rattle.blocks.specs.Answer.{no-outputs}
@@ -109,10 +107,9 @@ module _ (ws t : List ℕ) (room : ℕ) {e : ℕ} (least : e ≡ min room 128) (
       ∙ ap (take (block-count (network-in ws))) (append-assoc numbers (drop (block-count (network-in ws)) (take e zs)) (drop e zs))
       ∙ take-at numbers (drop (block-count (network-in ws)) (take e zs) ++ drop e zs) (block-count (network-in ws)) (one-count (network-in ws) t)
 
-  pub numbered-done : v .number ≡ 0 → (n : ℕ) → n ≡ word ws 5 → Numbered ws t room (record { verdict = v; count = n; numbers = packs ++ drop e zs }) table
-  numbered-done h n q =
+  pub numbered-done : v .number ≡ 0 → (n : ℕ) → n ≡ block-count (network-in ws) → Numbered ws t room (record { verdict = v; count = n; numbers = packs ++ drop e zs }) table
+  numbered-done h n count =
       let zero-number : scan-verdict ws (length t) (length (take e zs)) .number ≡ 0 = sym (ap (λ (x : Verdict). x .number) (s .answers)) ∙ h in
-      let count : n ≡ block-count (network-in ws) = q ∙ sym (count-is ws) in
       let room-for : block-count (network-in ws) ≤ e = omega (arith, enough ws t (length (take e zs)) zero-number, front-long-is) in
       record {
         few = omega (arith, least);

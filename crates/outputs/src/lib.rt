@@ -14,9 +14,6 @@ ghost use Rattle.blocks.specs.Packed.{unpacked};
 ghost use Rattle.outputs.specs.Records.{Recorded};
 ghost use Rattle.outputs.specs.Inner.{Numbered};
 
-// The index at which a network's words have the count of its blocks.
-const COUNT: usize = 5;
-
 // The verdict on a scan, and the numbers of its blocks' outputs in front of a list: none where it is refused.
 struct Numbers {
     verdict: Verdict,
@@ -50,7 +47,7 @@ fn numbered(words: &[u16], table: &mut [u16], room: usize) -> Numbers
     }
     Numbers {
         verdict,
-        count: section::word(words, COUNT) as usize,
+        count: network::block_count(words) as usize,
         numbers,
     }
 }

@@ -7,7 +7,7 @@ use Prim.Native.Nat.{ℕ, _*_, _≤_, _<_}
 use native.Mathlib.Omega.{arith}
 use borrow.Author.Tests.{lt-ltb, le-ltb}
 use lib.Dec.{eqb, ltb}
-use Rattle.bits.specs.Bit.{bit}
+use Rattle.bits.specs.Bit.{bit, longest}
 use Rattle.pointer.specs.declared.Pointer.{Pointer}
 use Rattle.runs.specs.Run.{run}
 use Rattle.pointer.specs.Pointer.{reset, advanced, set-to, next-of}
@@ -72,7 +72,7 @@ module _ (held : Bool) (at : ℕ) (t : List ℕ) (d p n : ℕ) (on : Power) wher
 -- ---- SENS
 
 -- a reset to 1 ends at 1 where there is a matrix
-reset-to-one : (n at : ℕ) → 1 ≤ n → n ≤ 255 → reset (into n at) 1 .at ≡ 1
+reset-to-one : (n at : ℕ) → 1 ≤ n → n ≤ longest → reset (into n at) 1 .at ≡ 1
 reset-to-one n at l u =
     ap (λ (p : Pointer). p .at) (reset-to (into n at) (size-right (16 * n) (omega arith) (omega arith) (omega arith)) 1 (omega arith))
 
@@ -99,7 +99,7 @@ module _ (held : Bool) (at : ℕ) (t : List ℕ) (s p n : ℕ) (on : Power) wher
       })
 
   -- a pointer that was reset is in range
-  not-reset : 1 ≤ n → n ≤ 255 → 16 * n < begun .at → left ≡ none
+  not-reset : 1 ≤ n → n ≤ longest → 16 * n < begun .at → left ≡ none
   unfolding left
   not-reset l u = go (held && on .bottom)
     where
@@ -107,7 +107,7 @@ module _ (held : Bool) (at : ℕ) (t : List ℕ) (s p n : ℕ) (on : Power) wher
       go false h = refl
       go true h = absurd (omega (arith, reset-to-one n at l u))
 
-  pub sense-over : 1 ≤ n → n ≤ 255 → on .top ≡ true → 16 * n < begun .at → Did on (sensed-at held at t s n on) s n p t (shows (on .top) false true) t
+  pub sense-over : 1 ≤ n → n ≤ longest → on .top ≡ true → 16 * n < begun .at → Did on (sensed-at held at t s n on) s n p t (shows (on .top) false true) t
   unfolding sense sensed left matrix-put change-put
   sense-over low high e l =
       by-effect on s n p t (shows (on .top) false true) t

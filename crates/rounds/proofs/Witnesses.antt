@@ -1,11 +1,11 @@
 -- Demand 3 at work, computed: networks that meet its premises, with what they report; and for each of its last premises a network
 -- that meets the others and breaks the conclusion. Assumes nothing.
 use mathlib.Core.Path.{_≡_, refl, sym, ap, subst}
-use mathlib.Core.Bool.{xor}
+use mathlib.Core.Bool.{true, xor}
 use mathlib.Core.List.{List, [], _∷_, flatMap}
 use mathlib.Core.Logic.{inr}
 use mathlib.Core.Option.{Option, none, some}
-use Prim.Native.Nat.{ℕ, zero, suc, _+_, _<_}
+use Prim.Native.Nat.{ℕ, zero, suc, _+_, _≤_, _<_}
 use native.Mathlib.Omega.{arith}
 use lib.ListN.{length}
 use Rattle.bits.specs.Bit.{bit, value, matrix as matrix-of}
@@ -13,14 +13,16 @@ use Rattle.matrix.specs.Logic.{combined}
 use Rattle.search.specs.Search.{first}
 use Rattle.pointer.specs.Pointer.{reset, in-range}
 use Rattle.record.specs.declared.Block.{Block}
-use Rattle.table.specs.Table.{total, reference-fault, start-of, sizes-faults}
+use Rattle.table.specs.Table.{total, reference-fault, start-of}
+use Rattle.level.specs.Level.{most-level}
+use Rattle.areas.specs.Areas.{sizes-faults, areas-section}
 use Rattle.rules.specs.Rules.{rule, allows}
 use Rattle.record.specs.Record.{block-in, spelled}
 use Rattle.network.specs.Network.{Network, words-of}
 use Rattle.rules.specs.Fault.{faults}
 use Rattle.section.specs.Walk.{seek}
 use Rattle.section.specs.Section.{section-earns, earned, meaning, judged-from, whole, records-earn, records-in}
-use Rattle.network.specs.Check.{areas-section, block-faults, blocks-section, network-in, checked}
+use Rattle.network.specs.Check.{block-faults, blocks-section, network-in, checked}
 use Rattle.network.specs.Sound.{GoodNetwork}
 use Rattle.network.proofs.Values.{accepted-good}
 use Rattle.blocks.specs.Kind.{kind-of}
@@ -45,20 +47,21 @@ use Rattle.rounds.proofs.Printed.{demand-3-bench}
 unfoldable spelt : Network → Network × ℕ
 unfolding words-of flatMap spelled network-in meaning records-in block-in
     checked whole judged-from earned section-earns records-earn areas-section sizes-faults blocks-section block-faults seek faults reference-fault rule allows
-spelt net = (network-in (words-of net), checked (words-of net) .number)
+spelt net = (network-in (words-of true net), checked (words-of true net) .number)
 
 taken : (net : Network) → spelt net ≡ (net, 0) → GoodNetwork net
 unfolding spelt
-taken net e = subst GoodNetwork (ap (λ (p : Network × ℕ). p .0) e) (accepted-good (words-of net) (ap (λ (p : Network × ℕ). p .1) e))
+taken net e = subst GoodNetwork (ap (λ (p : Network × ℕ). p .0) e) (accepted-good (words-of true net) (ap (λ (p : Network × ℕ). p .1) e))
 
 -- ---- scans of one table, each of what the one before left
 unfoldable pub onward : Network → List ℕ → ℕ → List ℕ
 onward net t zero = t
 onward net t (suc j) = scanned net (onward net t j) .table
 
--- a network of so many words of coils and of holding registers
-abbrev network : ℕ → ℕ → List Block → Network
-network coils holding blocks = record { sizes = record { coils = coils; discretes = 0; inputs = 0; holding = holding }; blocks = blocks }
+-- a network at a level, of so many words of coils and of holding registers
+abbrev network : ℕ → ℕ → ℕ → List Block → Network
+network level coils holding blocks =
+    record { sizes = record { coils = coils; discretes = 0; inputs = 0; holding = holding; level = level }; blocks = blocks }
 
 -- a block of one word with power on top: its kind, the class and the number of its top node, its middle register, its middle coil
 abbrev block : ℕ → ℕ → ℕ → ℕ → ℕ → Block
@@ -73,20 +76,30 @@ block kind class top middle coil = record {
 
 -- a network of three holding registers; a block on registers without coils
 abbrev registers : List Block → Network
-registers = network 0 3
+registers = network 1 0 3
 
 abbrev plain : ℕ → ℕ → ℕ → Block
 plain kind top middle = block kind 4 top middle 0
 
--- the network of the bench's example: 40001 against 40003, with pointer 40002
-abbrev pub bench : Network
-bench = registers (plain 5 1 2 ∷ [])
+-- the network of the bench's example at a level: 40001 against 40003, with pointer 40002
+abbrev pub bench-at : ℕ → Network
+bench-at level = network level 0 3 (plain 5 1 2 ∷ [])
 
--- the premises hold, whatever the three registers are
-pub bench-chain : (a p b m : ℕ) → Chain bench 0 m (onward bench (a ∷ p ∷ b ∷ []))
-unfolding onward all-outside passes start-of spelt
-bench-chain a p b m = record {
-  accepted = taken bench refl;
+abbrev pub bench : Network
+bench = bench-at 1
+
+bench-taken : (level : ℕ) → 1 ≤ level → level ≤ most-level → GoodNetwork (bench-at level)
+unfolding spelt
+bench-taken zero l u = absurd (omega arith)
+bench-taken (suc zero) l u = taken (bench-at 1) refl
+bench-taken (suc (suc zero)) l u = taken (bench-at 2) refl
+bench-taken (suc (suc (suc level))) l u = absurd (omega arith)
+
+-- the premises hold at both levels, whatever the three registers are
+pub bench-chain : (level : ℕ) → 1 ≤ level → level ≤ most-level → (a p b m : ℕ) → Chain (bench-at level) 0 m (onward (bench-at level) (a ∷ p ∷ b ∷ []))
+unfolding onward all-outside passes start-of
+bench-chain level l u a p b m = record {
+  accepted = bench-taken level l u;
   there = omega arith;
   compares = refl;
   first-size = refl;
@@ -102,28 +115,30 @@ abbrev reported : Network → (ℕ → List ℕ) → ℕ → ℕ → List (Optio
 reported net given j k = in-turn (λ s. report net 0 (given s)) j k
 
 -- so every round of it is one, from any pointer
-pub bench-round : (a p b j : ℕ) → let given = onward bench (a ∷ p ∷ b ∷ []) in RoundAt bench 0 given j (reported bench given j (round-at bench 0 given j))
-bench-round a p b j =
-    let given : ℕ → List ℕ = onward bench (a ∷ p ∷ b ∷ []) in
-    let m : ℕ = j + round-at bench 0 given j in
-    let met = chain-is-steady bench 0 m given (bench-chain a p b m) in
-    demand-3 bench 0 m given (met .0) (met .1) j (omega arith)
+pub bench-round : (level : ℕ) → 1 ≤ level → level ≤ most-level → (a p b j : ℕ) → let net = bench-at level in let given = onward net (a ∷ p ∷ b ∷ []) in
+    RoundAt net 0 given j (reported net given j (round-at net 0 given j))
+bench-round level l u a p b j =
+    let net : Network = bench-at level in
+    let given : ℕ → List ℕ = onward net (a ∷ p ∷ b ∷ []) in
+    let m : ℕ = j + round-at net 0 given j in
+    let met = chain-is-steady net 0 m given (bench-chain level l u a p b m) in
+    demand-3 net 0 m given (met .0) (met .1) j (omega arith)
 
-abbrev first-reports : List ℕ → ℕ → List (Option ℕ)
-first-reports t k = reported bench (onward bench t) 0 k
+abbrev first-reports : ℕ → List ℕ → ℕ → List (Option ℕ)
+first-reports level t k = reported (bench-at level) (onward (bench-at level) t) 0 k
 
--- the example's four scans: the last bit differs, so a round is 1, 16; a last bit that agrees: 2, none; no difference: none;
--- a pointer past the end
-pub bench-reports :
+-- the example's four scans, at any level: the last bit differs, so a round is 1, 16; a last bit that agrees: 2, none; no difference:
+-- none; a pointer past the end
+pub bench-reports : (level : ℕ) →
     _≡_ {A = List (List (Option ℕ))}
-    (first-reports (32769 ∷ 0 ∷ 0 ∷ []) 4 ∷ first-reports (0 ∷ 0 ∷ 0x4000 ∷ []) 4 ∷ first-reports (5 ∷ 9 ∷ 5 ∷ []) 2 ∷ first-reports (32769 ∷ 65535 ∷ 0 ∷ []) 3 ∷ [])
+    (first-reports level (32769 ∷ 0 ∷ 0 ∷ []) 4 ∷ first-reports level (0 ∷ 0 ∷ 0x4000 ∷ []) 4 ∷ first-reports level (5 ∷ 9 ∷ 5 ∷ []) 2 ∷ first-reports level (32769 ∷ 65535 ∷ 0 ∷ []) 3 ∷ [])
     ((some 1 ∷ some 16 ∷ some 1 ∷ some 16 ∷ [])
     ∷ (some 2 ∷ none ∷ some 2 ∷ none ∷ [])
     ∷ (none ∷ none ∷ [])
     ∷ (some 1 ∷ some 16 ∷ some 1 ∷ [])
     ∷ [])
 unfolding onward in-turn step steps passes block-table block-outputs first reset in-range start-of matrix-of value bit xor
-bench-reports = refl
+bench-reports level = refl
 
 -- ---- what the last premises are for
 
@@ -195,7 +210,7 @@ nothing-else-must-change = (
 -- the block's own coils included: a network of this block alone, whose middle coil, 00005, lies in its source, coils 1 to 16. It
 -- reports 1 and then 5, and never that there is no miscompare.
 abbrev own-coil : Network
-own-coil = network 1 2 (block 5 0 1 1 5 ∷ [])
+own-coil = network 1 1 2 (block 5 0 1 1 5 ∷ [])
 
 abbrev coil-tables : ℕ → List ℕ
 coil-tables = onward own-coil (0x8000 ∷ 0 ∷ 0 ∷ [])
@@ -280,3 +295,15 @@ pub example-prints : bench-text example-bytes ≡ example-text
 unfolding read-as words-text file-text scans-lines scan-lines line pointer-field head-line end-line refusal-line decimal digits places
     scans-table pointers-after pointer-of kind-of step steps passes block-table block-outputs first reset in-range start-of matrix-of value bit xor
 example-prints = refl
+
+-- the same compare on a Level 2 machine: count 5, and level 2 after the sizes
+abbrev pub example-at-two : List ℕ
+example-at-two =
+    0 ∷ 5 ∷ 0 ∷ 0 ∷ 0 ∷ 0 ∷ 0 ∷ 0 ∷ 0 ∷ 3 ∷ 0 ∷ 2 ∷ 0 ∷ 1 ∷ 0 ∷ 5 ∷ 0 ∷ 1 ∷ 0 ∷ 4
+    ∷ 0 ∷ 1 ∷ 0 ∷ 4 ∷ 0 ∷ 2 ∷ 0 ∷ 1 ∷ 0 ∷ 0 ∷ 0 ∷ 0 ∷ 0 ∷ 0 ∷ 0 ∷ 0 ∷ 0 ∷ 0
+    ∷ 0 ∷ 0 ∷ 0 ∷ 0 ∷ 0 ∷ 0 ∷ 0 ∷ 3 ∷ 128 ∷ 1 ∷ 0 ∷ 0 ∷ 0 ∷ 0 ∷ 0 ∷ 1 ∷ 0 ∷ 4 ∷ []
+
+pub two-prints : bench-text example-at-two ≡ example-text
+unfolding read-as words-text file-text scans-lines scan-lines line pointer-field head-line end-line refusal-line decimal digits places
+    scans-table pointers-after pointer-of kind-of step steps passes block-table block-outputs first reset in-range start-of matrix-of value bit xor
+two-prints = refl

@@ -13,18 +13,17 @@ use Rattle.table.specs.Table.{reference-fault}
 use Rattle.record.specs.declared.Node.{Node}
 use Rattle.record.specs.declared.Input.{Input}
 use Rattle.record.specs.declared.Block.{Block}
-use Rattle.rules.specs.Rules.{most-constant}
-use Rattle.rules.specs.Fault.{number-fault, input-fault, faults}
+use Rattle.rules.specs.Fault.{constant-in, number-fault, input-fault, faults}
 
 -- ---- nodes and inputs
 module _ (z : Sizes) (node : Node) (words : ℕ) where
   by-class : (constant : Bool) → eqb (node .class) 9 ≡ constant
-      → number-fault z node words ≡ cond constant (up-to most-constant (node .number) 6) (reference-fault z (node .class) (node .number) words)
+      → number-fault z node words ≡ cond constant (up-to (constant-in z) (node .number) 6) (reference-fault z (node .class) (node .number) words)
   unfolding number-fault
   by-class constant p =
-      ap (λ (c : Bool). cond c (up-to most-constant (node .number) 6) (reference-fault z (node .class) (node .number) words)) p
+      ap (λ (c : Bool). cond c (up-to (constant-in z) (node .number) 6) (reference-fault z (node .class) (node .number) words)) p
 
-  pub of-constant : node .class ≡ 9 → number-fault z node words ≡ up-to most-constant (node .number) 6
+  pub of-constant : node .class ≡ 9 → number-fault z node words ≡ up-to (constant-in z) (node .number) 6
   of-constant e = by-class true (eq-eqb (node .class) 9 e)
 
   pub no-constant : (node .class ≡ 9 → ⊥) → number-fault z node words ≡ reference-fault z (node .class) (node .number) words

@@ -14,8 +14,8 @@ use Rattle.record.specs.declared.Node.{Node}
 use Rattle.record.specs.declared.Input.{Input}
 use Rattle.record.specs.declared.Block.{Block}
 use Rattle.rules.specs.declared.rules.Classes.{Classes}
-use Rattle.rules.specs.Rules.{most-constant, rule, allows}
-use Rattle.rules.specs.Fault.{class-fault, number-fault, input-fault, top-words, faults}
+use Rattle.rules.specs.Rules.{rule, allows}
+use Rattle.rules.specs.Fault.{length-in, constant-in, class-fault, number-fault, input-fault, top-words, faults}
 use Rattle.rules.specs.Sound.{GoodNode, GoodInput, GoodBlock}
 use Rattle.rules.proofs.Faults.{of-constant, no-constant, input-fixed, input-coil, input-discrete, input-output}
 
@@ -25,7 +25,7 @@ good-node : (z : Sizes) (classes : Classes) (node : Node) (words : ℕ) → clas
 unfolding class-fault
 good-node z classes node words c e = record {
   class-allowed = earns (allows classes (node .class)) 6 (λ q. omega arith) c;
-  constant = λ k. most-of most-constant (node .number) 6 (λ q. omega arith) (sym (of-constant z node words k) ∙ e);
+  constant = λ k. most-of (constant-in z) (node .number) 6 (λ q. omega arith) (sym (of-constant z node words k) ∙ e);
   placed = λ k. placed z (node .class) (node .number) words (sym (no-constant z node words k) ∙ e);
 }
 
@@ -35,7 +35,7 @@ class-clear classes class e = nothing (allows classes class) 6 e
 
 number-clear : (z : Sizes) (classes : Classes) (node : Node) (words : ℕ) → GoodNode z classes node words → number-fault z node words ≡ 0
 number-clear z classes node words g = elim (ℕ-discrete (node .class) 9) [
-  | yes k ↦ of-constant z node words k ∙ up-to-in most-constant (node .number) 6 (g .constant k)
+  | yes k ↦ of-constant z node words k ∙ up-to-in (constant-in z) (node .number) 6 (g .constant k)
   | no k ↦ no-constant z node words k ∙ unplaced z (node .class) (node .number) words (g .placed k)
 ]
 
@@ -72,7 +72,7 @@ pub good-block : (z : Sizes) (earlier : ℕ) (b : Block) → Clean (faults z ear
 unfolding Clean faults
 good-block z earlier b c =
     let known = count-of 8 (b .kind) 4 (λ q. omega arith) (c .0) in
-    let long = count-of (rule (b .kind) .most) (b .n) 5 (λ q. omega arith) (c .1 .0) in
+    let long = count-of (length-in z (b .kind)) (b .n) 5 (λ q. omega arith) (c .1 .0) in
     let nodes = c .1 .1 in
     let wires = nodes .1 .1 .1 .1 in
     let coils = wires .1 .1 .1 .1 .1 .1 in
@@ -97,7 +97,7 @@ unfolding Clean faults
 record-clean z earlier b g = (
   counted-in 8 (b .kind) 4 (g .kind-low) (g .kind-high),
   (
-    counted-in (rule (b .kind) .most) (b .n) 5 (g .length-low) (g .length-high),
+    counted-in (length-in z (b .kind)) (b .n) 5 (g .length-low) (g .length-high),
     (
       class-clear (rule (b .kind) .top) (b .top .class) (g .top-node .class-allowed),
       (

@@ -7,6 +7,10 @@ use Prim.Native.Nat.{ℕ, zero, suc, _+_, _≤_}
 use native.Mathlib.Decide.{ℕ-discrete}
 use native.Mathlib.Omega.{arith}
 use borrow.Author.Tests.{ne-eqb}
+use Rattle.bits.specs.Bit.{longest-whole, longest}
+use Rattle.level.specs.declared.ByLevel.{ByLevel}
+use Rattle.level.specs.Level.{at-level, whole-length, single-length}
+use Rattle.level.proofs.Limits.{at-most}
 use Rattle.table.specs.declared.sizes.Sizes.{Sizes}
 use Rattle.table.specs.Table.{area, total, start-of}
 use Rattle.table.specs.Sound.{Placed}
@@ -15,8 +19,8 @@ use Rattle.record.specs.declared.Node.{Node}
 use Rattle.record.specs.declared.Block.{Block}
 use Rattle.rules.specs.declared.rules.Classes.{Classes}
 use Rattle.rules.specs.declared.rules.Rule.{Rule}
-use Rattle.rules.specs.Rules.{most-constant, any-matrix, writable, held, pointers, row, rule, allows}
-use Rattle.rules.specs.Fault.{top-words}
+use Rattle.rules.specs.Rules.{any-matrix, writable, held, pointers, row, rule, allows}
+use Rattle.rules.specs.Fault.{constant-in, top-words}
 use Rattle.rules.specs.Sound.{GoodNode, GoodBlock}
 
 -- ---- the facts
@@ -32,7 +36,7 @@ Writable node = (node .class ≡ 0) ⊎ (node .class ≡ 4)
 -- AND, OR, XOR, COMP and BROT: a source, and a destination that is written
 pub record TwoMatrices (z : Sizes) (b : Block) : Type 0 where
   pub some : 1 ≤ b .n
-  pub few : b .n ≤ 100
+  pub few : b .n ≤ longest-whole
   pub source : Lies z (b .top) (b .n)
   pub destination : Lies z (b .middle) (b .n)
   pub writable : Writable (b .middle)
@@ -40,7 +44,7 @@ pub record TwoMatrices (z : Sizes) (b : Block) : Type 0 where
 -- CMPR: a source, and a pointer in a holding register with its matrix in the n registers after it
 pub record Compared (z : Sizes) (b : Block) : Type 0 where
   pub some : 1 ≤ b .n
-  pub few : b .n ≤ 100
+  pub few : b .n ≤ longest-whole
   pub source : Lies z (b .top) (b .n)
   pub held : b .middle .class ≡ 4
   pub pointer-and-matrix : Lies z (b .middle) (b .n + 1)
@@ -48,8 +52,8 @@ pub record Compared (z : Sizes) (b : Block) : Type 0 where
 -- MBIT and SENS: a pointer that is a constant or one register, and a matrix
 pub record Pointed (z : Sizes) (b : Block) : Type 0 where
   pub some : 1 ≤ b .n
-  pub few : b .n ≤ 255
-  pub constant : b .top .class ≡ 9 → b .top .number ≤ most-constant
+  pub few : b .n ≤ longest
+  pub constant : b .top .class ≡ 9 → b .top .number ≤ constant-in z
   pub register : (b .top .class ≡ 9 → ⊥) → Lies z (b .top) 1
   pub pointer : (b .top .class ≡ 9) ⊎ ((b .top .class ≡ 3) ⊎ (b .top .class ≡ 4))
   pub matrix : Lies z (b .middle) (b .n)
@@ -163,7 +167,13 @@ in-area z classes node words g a = lies z node words (a .is-area) (g .placed (a 
 
 -- ---- the facts of a record whose kind's row is known
 module _ (z : Sizes) (earlier : ℕ) (b : Block) (g : GoodBlock z earlier b) where
-  two-matrices : rule (b .kind) ≡ row any-matrix writable 100 0 false → TwoMatrices z b
+  -- its length is at most what its row has at any level
+  few : (lengths : ByLevel) (most : ℕ) → rule (b .kind) .most ≡ lengths → lengths .one ≤ most → lengths .two ≤ most → b .n ≤ most
+  few lengths most e l u =
+      let low : b .n ≤ at-level lengths (z .level) = subst (λ (x : ByLevel). b .n ≤ at-level x (z .level)) e (g .length-high) in
+      omega (arith, low, at-most lengths most (z .level) l u)
+
+  two-matrices : rule (b .kind) ≡ row any-matrix writable whole-length 0 false → TwoMatrices z b
   two-matrices e =
       let top : GoodNode z any-matrix (b .top) (b .n) =
       subst (λ (r : Rule). GoodNode z (r .top) (b .top) (top-words (r .pointer) (b .n))) e (g .top-node) in
@@ -172,7 +182,7 @@ module _ (z : Sizes) (earlier : ℕ) (b : Block) (g : GoodBlock z earlier b) whe
       let w = written-class (b .middle .class) (middle .class-allowed) in
       record {
         some = g .length-low;
-        few = subst (λ (r : Rule). b .n ≤ r .most) e (g .length-high);
+        few = few whole-length longest-whole (ap (λ (r : Rule). r .most) e) (omega arith) (omega arith);
         source = in-area z any-matrix (b .top) (b .n) top (any-area (b .top .class) (top .class-allowed));
         destination = plus-none (in-area z writable (b .middle) (b .n + 0) middle (of-written (b .middle .class) w));
         writable = w;
@@ -181,7 +191,7 @@ module _ (z : Sizes) (earlier : ℕ) (b : Block) (g : GoodBlock z earlier b) whe
       plus-none : Lies z (b .middle) (b .n + 0) → Lies z (b .middle) (b .n)
       plus-none l = omega arith
 
-  compared : rule (b .kind) ≡ row any-matrix held 100 1 false → Compared z b
+  compared : rule (b .kind) ≡ row any-matrix held whole-length 1 false → Compared z b
   compared e =
       let top : GoodNode z any-matrix (b .top) (b .n) =
       subst (λ (r : Rule). GoodNode z (r .top) (b .top) (top-words (r .pointer) (b .n))) e (g .top-node) in
@@ -190,13 +200,13 @@ module _ (z : Sizes) (earlier : ℕ) (b : Block) (g : GoodBlock z earlier b) whe
       let h = held-class (b .middle .class) (middle .class-allowed) in
       record {
         some = g .length-low;
-        few = subst (λ (r : Rule). b .n ≤ r .most) e (g .length-high);
+        few = few whole-length longest-whole (ap (λ (r : Rule). r .most) e) (omega arith) (omega arith);
         source = in-area z any-matrix (b .top) (b .n) top (any-area (b .top .class) (top .class-allowed));
         held = h;
         pointer-and-matrix = in-area z held (b .middle) (b .n + 1) middle (of-written (b .middle .class) (inr h));
       }
 
-  pointed : (c : Classes) → ((class : ℕ) → allows c class ≡ true → InArea class) → rule (b .kind) ≡ row pointers c 255 0 true → Pointed z b
+  pointed : (c : Classes) → ((class : ℕ) → allows c class ≡ true → InArea class) → rule (b .kind) ≡ row pointers c single-length 0 true → Pointed z b
   pointed c areas e =
       let top : GoodNode z pointers (b .top) 1 =
       subst (λ (r : Rule). GoodNode z (r .top) (b .top) (top-words (r .pointer) (b .n))) e (g .top-node) in
@@ -205,7 +215,7 @@ module _ (z : Sizes) (earlier : ℕ) (b : Block) (g : GoodBlock z earlier b) whe
       let p = pointer-class (b .top .class) (top .class-allowed) in
       record {
         some = g .length-low;
-        few = subst (λ (r : Rule). b .n ≤ r .most) e (g .length-high);
+        few = few single-length longest (ap (λ (r : Rule). r .most) e) (omega arith) (omega arith);
         constant = top .constant;
         register = λ h. lies z (b .top) 1 (⊎-elim (λ q. absurd (h q)) (⊎-elim (λ q. area-at 3 q refl) (λ q. area-at 4 q refl)) p) (top .placed h);
         pointer = p;
@@ -218,11 +228,11 @@ module _ (z : Sizes) (earlier : ℕ) (b : Block) (g : GoodBlock z earlier b) whe
   row-of : (kind : ℕ) → b .kind ≡ kind → rule (b .kind) ≡ rule kind
   row-of kind e = ap rule e
 
-  logic-row : (b .kind ≤ 4) ⊎ (b .kind ≡ 8) → rule (b .kind) ≡ row any-matrix writable 100 0 false
+  logic-row : (b .kind ≤ 4) ⊎ (b .kind ≡ 8) → rule (b .kind) ≡ row any-matrix writable whole-length 0 false
   unfolding rule
   logic-row (inl l) = low (b .kind) (g .kind-low) l
     where
-      low : (m : ℕ) → 1 ≤ m → m ≤ 4 → rule m ≡ row any-matrix writable 100 0 false
+      low : (m : ℕ) → 1 ≤ m → m ≤ 4 → rule m ≡ row any-matrix writable whole-length 0 false
       low zero a u = absurd (omega arith)
       low (suc zero) a u = refl
       low (suc (suc zero)) a u = refl

@@ -4,12 +4,9 @@ use mathlib.Core.Bool.{Bool, true, false, cond, _&&_}
 use mathlib.Core.List.{List, [], _∷_}
 use lib.Dec.{leb, eqb}
 use lib.ListN.{getD}
-use Rattle.bits.specs.Bit.{longest, longest-whole}
+use Rattle.level.specs.declared.ByLevel.{ByLevel}
+use Rattle.level.specs.Level.{at-both, whole-length, single-length}
 use Rattle.rules.specs.declared.{rules.Classes.Classes, rules.Rule.Rule}
-
--- the largest constant
-abbrev pub most-constant : ℕ
-most-constant = 999
 
 -- the classes that a node may have
 abbrev pub any-matrix : Classes
@@ -27,25 +24,25 @@ pointers = record { coils = false; discretes = false; inputs = true; holding = t
 abbrev pub no-class : Classes
 no-class = record { coils = false; discretes = false; inputs = false; holding = false; constants = false }
 
-abbrev pub row : Classes → Classes → ℕ → ℕ → Bool → Rule
+abbrev pub row : Classes → Classes → ByLevel → ℕ → Bool → Rule
 row top middle most extra pointer = record { top = top; middle = middle; most = most; extra = extra; pointer = pointer }
 
--- AND, OR, XOR, COMP, CMPR, MBIT, SENS, BROT: classes of the top and of the middle node, greatest length, registers of the
--- middle node beside its matrix, and whether the top node is a pointer
+-- AND, OR, XOR, COMP, CMPR, MBIT, SENS, BROT: classes of the top and of the middle node, greatest length by level, registers of
+-- the middle node beside its matrix, and whether the top node is a pointer
 abbrev pub rows : List Rule
 rows =
-    row any-matrix writable longest-whole 0 false
-    ∷ row any-matrix writable longest-whole 0 false
-    ∷ row any-matrix writable longest-whole 0 false
-    ∷ row any-matrix writable longest-whole 0 false
-    ∷ row any-matrix held longest-whole 1 false
-    ∷ row pointers writable longest 0 true
-    ∷ row pointers any-matrix longest 0 true
-    ∷ row any-matrix writable longest-whole 0 false
+    row any-matrix writable whole-length 0 false
+    ∷ row any-matrix writable whole-length 0 false
+    ∷ row any-matrix writable whole-length 0 false
+    ∷ row any-matrix writable whole-length 0 false
+    ∷ row any-matrix held whole-length 1 false
+    ∷ row pointers writable single-length 0 true
+    ∷ row pointers any-matrix single-length 0 true
+    ∷ row any-matrix writable whole-length 0 false
     ∷ []
 
 abbrev pub no-kind : Rule
-no-kind = row no-class no-class 0 0 false
+no-kind = row no-class no-class (at-both 0) 0 false
 
 abbrev pub kind : ℕ → Bool
 kind k = leb 1 k && leb k 8

@@ -3,6 +3,8 @@ use crate::rules::Classes;
 use crate::rules::Rule;
 use crate::rules::allows;
 use crate::rules::rule_of;
+use level::at_level;
+use level::constant_at;
 use record::Block;
 use record::Input;
 use record::Node;
@@ -15,8 +17,6 @@ ghost use mathlib.Core.Path.{_≡_};
 ghost use Rattle.section.specs.Walk.{word};
 ghost use Rattle.rules.specs.Fault.{class-fault, number-fault, input-fault, top-words, faults, judged};
 ghost use Rattle.rules.specs.Rules.{rule};
-
-const MOST_CONSTANT: usize = 999;
 
 fn class_fault(classes: Classes, class: u16) -> u16
     ensures { λ r. ⌜ r ≡ class-fault classes class ⌝ }
@@ -33,7 +33,7 @@ fn number_fault(sizes: Sizes, node: Node, words: u32) -> u16
     let class = node.class;
     let number = node.number;
     if class == 9 {
-        return up_to(MOST_CONSTANT, number as usize, 6);
+        return up_to(constant_at(sizes.level) as usize, number as usize, 6);
     }
     reference_fault(sizes, class, number, words)
 }
@@ -76,7 +76,11 @@ fn word_fault(row: Rule, sizes: Sizes, earlier: usize, block: Block, q: usize) -
     let coils = block.coils;
     match q {
         0 => counted(8, block.kind as usize, 4),
-        1 => counted(row.most as usize, block.n as usize, 5),
+        1 => counted(
+            at_level(row.most, sizes.level) as usize,
+            block.n as usize,
+            5,
+        ),
         2 => class_fault(row.top, block.top.class),
         3 => number_fault(sizes, block.top, top_words(row.pointer, block.n) as u32),
         4 => class_fault(row.middle, block.middle.class),

@@ -1,6 +1,7 @@
 // The rules for the eight kinds, in one constant table.
-use bits::LONGEST;
-use bits::LONGEST_WHOLE;
+use level::ByLevel;
+use level::SINGLE_LENGTH;
+use level::WHOLE_LENGTH;
 ghost use mathlib.Core.Path.{_≡_};
 ghost use Rattle.rules.specs.Rules.{rule, allows};
 
@@ -13,12 +14,12 @@ pub struct Classes {
     pub constants: bool,
 }
 
-// The classes of both nodes, the greatest length, the middle node's registers beside its matrix, and whether the top node is a
-// pointer.
+// The classes of both nodes, the greatest length by level, the middle node's registers beside its matrix, and whether the top node is
+// a pointer.
 pub struct Rule {
     pub top: Classes,
     pub middle: Classes,
-    pub most: u16,
+    pub most: ByLevel,
     pub extra: u16,
     pub pointer: bool,
 }
@@ -66,7 +67,7 @@ const NO_CLASS: Classes = Classes {
 const LOGIC: Rule = Rule {
     top: ANY_MATRIX,
     middle: WRITABLE,
-    most: LONGEST_WHOLE as u16,
+    most: WHOLE_LENGTH,
     extra: 0,
     pointer: false,
 };
@@ -74,7 +75,7 @@ const LOGIC: Rule = Rule {
 const COMPARE: Rule = Rule {
     top: ANY_MATRIX,
     middle: HELD,
-    most: LONGEST_WHOLE as u16,
+    most: WHOLE_LENGTH,
     extra: 1,
     pointer: false,
 };
@@ -82,7 +83,7 @@ const COMPARE: Rule = Rule {
 const MODIFY: Rule = Rule {
     top: POINTERS,
     middle: WRITABLE,
-    most: LONGEST as u16,
+    most: SINGLE_LENGTH,
     extra: 0,
     pointer: true,
 };
@@ -90,15 +91,17 @@ const MODIFY: Rule = Rule {
 const SENSE: Rule = Rule {
     top: POINTERS,
     middle: ANY_MATRIX,
-    most: LONGEST as u16,
+    most: SINGLE_LENGTH,
     extra: 0,
     pointer: true,
 };
 
+const NO_LENGTH: ByLevel = ByLevel { one: 0, two: 0 };
+
 const NO_KIND: Rule = Rule {
     top: NO_CLASS,
     middle: NO_CLASS,
-    most: 0,
+    most: NO_LENGTH,
     extra: 0,
     pointer: false,
 };

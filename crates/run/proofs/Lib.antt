@@ -3,6 +3,7 @@ pub mod Begun
 pub mod Determined
 pub mod Front
 pub mod Kept
+pub mod Levels
 pub mod Paging
 pub mod Printing
 pub mod Running

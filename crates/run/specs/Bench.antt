@@ -1,8 +1,9 @@
 -- What the bench prints (document 01, "The bench program"), for any bytes: the one line of a refusal, or the first line, the lines of
 -- each scan, and the last line. Assumes nothing.
 use Prim.Native.Nat.{ℕ, zero, suc, _+_}
+use mathlib.Core.Path.{_≡_}
 use mathlib.Core.Bool.{Bool, cond}
-use mathlib.Core.List.{[], _++_}
+use mathlib.Core.List.{[], _∷_, _++_}
 use lib.Dec.{eqb}
 use lib.ListN.{getD}
 use Rattle.verdict.specs.Lists.{Words, Table, Bytes, Text}
@@ -44,3 +45,11 @@ words-text ws odd = cond (eqb (file-checked ws odd .number) 0) (file-text (file-
 -- the bytes that are read
 abbrev pub bench-text : Bytes → Text
 bench-text bytes = words-text (words-in bytes) (odd-byte bytes)
+
+-- Count 4 means Level 1: words that are accepted without the level print the same with level 1 after their sizes.
+abbrev pub LevelOnePrints : Type 0
+LevelOnePrints =
+    (c d i h : ℕ) (rest : Words) (odd : Bool) →
+    let short : Words = 4 ∷ c ∷ d ∷ i ∷ h ∷ rest in
+    let long : Words = 5 ∷ c ∷ d ∷ i ∷ h ∷ 1 ∷ rest in
+    file-checked short odd .number ≡ 0 → words-text long odd ≡ words-text short odd

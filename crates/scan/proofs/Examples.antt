@@ -7,14 +7,15 @@ use Rattle.matrix.specs.Logic.{combined}
 use Rattle.search.specs.Search.{first}
 use Rattle.matrix.specs.Move.{moved}
 use Rattle.pointer.specs.Pointer.{reset, in-range, advanced}
-use Rattle.table.specs.Table.{reference-fault, start-of, sizes-faults}
+use Rattle.table.specs.Table.{reference-fault, start-of}
+use Rattle.areas.specs.Areas.{sizes-faults, areas-section}
 use Rattle.rules.specs.Rules.{rule, allows}
 use Rattle.record.specs.Record.{block-in, spelled}
 use Rattle.network.specs.Network.{words-of}
 use Rattle.rules.specs.Fault.{faults}
 use Rattle.section.specs.Walk.{seek}
 use Rattle.section.specs.Section.{section-earns, earned, meaning, judged-from, whole, records-earn, records-in}
-use Rattle.network.specs.Check.{areas-section, block-faults, blocks-section, network-in, checked}
+use Rattle.network.specs.Check.{block-faults, blocks-section, network-in, checked}
 use Rattle.blocks.specs.Work.{block-outputs, block-table}
 use Rattle.inputs.specs.Input.{passes}
 use Rattle.scan.specs.Scan.{step, steps, scan-verdict, scan-table, scan-records}
@@ -25,4 +26,4 @@ unfolding scan-verdict scan-table scan-records step steps passes block-table blo
     combined first moved reset in-range advanced start-of matrix value bit xor
     words-of flatMap spelled network-in meaning records-in block-in
     checked whole judged-from earned section-earns records-earn areas-section sizes-faults blocks-section block-faults seek faults reference-fault rule allows
-as-document-01 = refl
+as-document-01 = (refl, refl, refl)

@@ -1,5 +1,5 @@
 -- P1 to P14 of document 01 ("Both sides of the edges, in hex words"), one table, and the statement about all of it: a row has the case's
--- label, its network of one block, the table before the scan, and the table and the outputs after it. Assumes nothing.
+-- label, its network of one block at any level, the table before the scan, and the table and the outputs after it. Assumes nothing.
 use Prim.Native.Nat.{ℕ}
 use Prim.Native.String.{String}
 use mathlib.Core.Path.{_≡_}
@@ -18,16 +18,16 @@ use Rattle.scan.specs.Scan.{scan-verdict, scan-table, scan-records}
 
 pub record Case : Type 0 where
   pub label : String
-  pub network : Network
+  pub network : ℕ → Network
   pub before : Table
   pub after : Table
   pub outputs : Outputs
 
-abbrev case : String → Network → Table → Table → Outputs → Case
+abbrev case : String → (ℕ → Network) → Table → Table → Outputs → Case
 case label network before after outputs =
     record { label = label; network = network; before = before; after = after; outputs = outputs }
 
--- ---- a network of one block over four holding registers, without coils
+-- ---- a network of one block over four holding registers, without coils, by its level
 
 -- an input that always has power, and one that never has
 abbrev always : Input
@@ -60,11 +60,11 @@ block kind n top middle inputs = record {
   coils = record { top = 0; middle = 0; bottom = 0 };
 }
 
-abbrev over-registers : Block → Network
-over-registers b = record { sizes = record { coils = 0; discretes = 0; inputs = 0; holding = 4 }; blocks = b ∷ [] }
+abbrev over-registers : Block → ℕ → Network
+over-registers b level = record { sizes = record { coils = 0; discretes = 0; inputs = 0; holding = 4; level = level }; blocks = b ∷ [] }
 
 -- from 40001 to 40002: of CMPR these are the source and the pointer, of MBIT the pointer and the matrix
-abbrev usual : ℕ → ℕ → Inputs → Network
+abbrev usual : ℕ → ℕ → Inputs → ℕ → Network
 usual kind n inputs = over-registers (block kind n 1 2 inputs)
 
 abbrev registers : ℕ → ℕ → ℕ → ℕ → Table
@@ -118,15 +118,19 @@ cases =
 
 -- ---- the statement
 
--- what a scan of a case's words answers and leaves, with one record for the outputs
-abbrev pub happens : Case → Verdict × Table × List Outputs
-happens c =
-    (scan-verdict (words-of (c .network)) (length (c .before)) 1, scan-table (words-of (c .network)) (c .before) 1, scan-records (words-of (c .network)) (c .before) (no-outputs ∷ []))
+-- what a scan of a case's words, with the level or without it, answers and leaves, with one record for the outputs
+abbrev pub happens : Bool → ℕ → Case → Verdict × Table × List Outputs
+happens with-level level c =
+    let ws = words-of with-level (c .network level) in
+    (scan-verdict ws (length (c .before)) 1, scan-table ws (c .before) 1, scan-records ws (c .before) (no-outputs ∷ []))
 
 -- and what the case says: the words are accepted, and the scan leaves that table and gives those outputs
 abbrev pub expected : Case → Verdict × Table × List Outputs
 expected c = (done, c .after, c .outputs ∷ [])
 
--- in every case that happens which it says
+-- in every case that happens which it says: with level 1 left out of the words, and with level 1 and level 2 among them
 abbrev pub AsDocument01 : Type 0
-AsDocument01 = map happens cases ≡ map expected cases
+AsDocument01 =
+    (map (happens false 1) cases ≡ map expected cases)
+    × (map (happens true 1) cases ≡ map expected cases)
+    × (map (happens true 2) cases ≡ map expected cases)

@@ -42,7 +42,7 @@ earns false k h e = absurd (h e)
 pub nothing : (b : Bool) (k : ℕ) → b ≡ true → cond b 0 k ≡ 0
 nothing b k e = ap (λ (x : Bool). cond x 0 k) e
 
-both : (a b : Bool) → (a && b) ≡ true → (a ≡ true) × (b ≡ true)
+pub both : (a b : Bool) → (a && b) ≡ true → (a ≡ true) × (b ≡ true)
 both true true e = (refl, refl)
 both true false e = absurd (false≢true e)
 both false b e = absurd (false≢true e)

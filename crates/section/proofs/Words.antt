@@ -1,12 +1,13 @@
 -- The laws of words from an index on, and of words that earn nothing. Assumes nothing.
 use mathlib.Core.Path.{_≡_, refl, sym, ap, _∙_}
-use mathlib.Core.List.{List}
+use mathlib.Core.List.{List, _∷_, _++_}
 use Prim.Native.Nat.{ℕ, zero, suc, _+_, _≤_, _<_}
 use native.Mathlib.Decide.{decLt}
 use native.Mathlib.Nat.{add-zero, le-antisymm}
+use native.Mathlib.Numerals.{add-one}
 use native.Mathlib.Omega.{arith}
-use lib.ListN.{drop, replicate}
-use lib.Seq.{getD-drop, drop-drop}
+use lib.ListN.{length, take, drop, replicate}
+use lib.Seq.{getD-drop, drop-drop, take-add, take-suc, append-snoc}
 use Rattle.section.specs.Walk.{word, seek}
 use Rattle.verdict.specs.Verdict.{verdict, done}
 use Rattle.section.proofs.Walk.{le-of-not-lt, seek-none, seek-next, seek-missing}
@@ -20,6 +21,14 @@ module _ (ws : List ℕ) (at : ℕ) where
 
   pub rest-from : (i : ℕ) → drop (at + i) ws ≡ drop i (drop at ws)
   rest-from i = sym (drop-drop i at ws)
+
+  -- the words before an index, the one at it and n more
+  pub one-more : (n : ℕ) → at < length ws → take at ws ++ word ws at ∷ take n (drop (at + 1) ws) ≡ take (at + 1 + n) ws
+  one-more n l =
+      let more : List ℕ = take n (drop (at + 1) ws) in
+      sym (append-snoc (take at ws) (word ws at) more)
+      ∙ ap (λ (l : List ℕ). l ++ more) (sym (take-suc ws at 0 l) ∙ ap (λ (j : ℕ). take j ws) (sym (add-one at)))
+      ∙ sym (take-add (at + 1) n ws)
 
 -- n words that earn nothing only have to be there
 module _ (size : ℕ) where

@@ -9,7 +9,6 @@ use Rattle.table.proofs.part.start.Reads as start-reads
 use Rattle.table.proofs.part.total.Reads as total-reads
 use Rattle.table.proofs.sizes.allowed.Reads as allowed-reads
 use Rattle.table.proofs.sizes.reference_fault.Reads as reference-fault-reads
-use Rattle.table.proofs.sizes.size_fault.Reads as size-fault-reads
 
 pub matrix : DecidesWords matrix-reads.Post (λ κs r. now r)
 matrix κs a x y s t p q = p ∙ sym q
@@ -25,6 +24,3 @@ allowed κs a x y s t p q = p ∙ sym q
 
 pub reference-fault : Decides reference-fault-reads.Post
 reference-fault κs a x y s t p q = p ∙ sym q
-
-pub size-fault : Decides size-fault-reads.Post
-size-fault κs a x y s t p q = p ∙ sym q

@@ -1,66 +1,48 @@
--- Good sizes and references: each earns nothing exactly when its condition holds. Assumes nothing.
+-- Good sizes and references: each is allowed, or earns nothing, exactly when its condition holds. Assumes nothing.
 use mathlib.Core.Path.{_≡_, refl, sym, ap, ap₂}
 use mathlib.Core.Bool.{Bool, true, false, cond, not, _&&_, false≢true}
 use Prim.Native.Nat.{ℕ, zero, suc, _+_, _%_, _≤_}
 use native.Mathlib.Omega.{arith}
 use borrow.Author.Tests.{eq-eqb, le-leb, leb-true, eqb-true}
 use lib.Dec.{leb, eqb}
-use Rattle.section.specs.Truths.{Clean}
-use Rattle.section.proofs.Limits.{most-of, up-to-in}
+use Rattle.level.specs.Level.{most-level}
+use Rattle.section.proofs.Limits.{in-count, both}
 use Rattle.table.specs.declared.sizes.Sizes.{Sizes}
-use Rattle.table.specs.Table.{most-coils, most-discretes, most-inputs, most-holding, allowed, sizes-faults, discrete, size-of, offset, bad-start, reference-fault}
+use Rattle.table.specs.Table.{most-coils, most-discretes, most-inputs, most-holding, allowed, discrete, size-of, offset, bad-start, reference-fault}
 use Rattle.table.specs.Sound.{GoodSizes, Placed}
-use Rattle.table.proofs.References.{allowed-by, reference-inside}
+use Rattle.table.proofs.References.{five, allowed-by, reference-inside}
 
 -- ---- sizes
-pub good-sizes : (z : Sizes) → Clean (sizes-faults z) → GoodSizes z
-unfolding Clean sizes-faults
-good-sizes z c = record {
-  coils = most-of most-coils (z .coils) 3 (λ q. omega arith) (c .0);
-  discretes = most-of most-discretes (z .discretes) 3 (λ q. omega arith) (c .1 .0);
-  inputs = most-of most-inputs (z .inputs) 3 (λ q. omega arith) (c .1 .1 .0);
-  holding = most-of most-holding (z .holding) 3 (λ q. omega arith) (c .1 .1 .1 .0);
-}
-
-pub sizes-clean : (z : Sizes) → GoodSizes z → Clean (sizes-faults z)
-unfolding Clean sizes-faults
-sizes-clean z g = (
-  up-to-in most-coils (z .coils) 3 (g .coils),
-  (
-    up-to-in most-discretes (z .discretes) 3 (g .discretes),
-    (
-      up-to-in most-inputs (z .inputs) 3 (g .inputs),
-      (
-        up-to-in most-holding (z .holding) 3 (g .holding),
-        tt,
-      ),
-    ),
-  ),
-)
-
 pub sizes-allowed : (z : Sizes) → GoodSizes z → allowed z ≡ true
 sizes-allowed z g =
-    allowed-by z true true true true
+    allowed-by z true true true true true
     (le-leb (z .coils) most-coils (g .coils))
     (le-leb (z .discretes) most-discretes (g .discretes))
     (le-leb (z .inputs) most-inputs (g .inputs))
     (le-leb (z .holding) most-holding (g .holding))
+    (in-count most-level (z .level) (g .level-low) (g .level-high))
 
-all-four : (a b c d : Bool) → ((a && b) && (c && d)) ≡ true → (a ≡ true) × (b ≡ true) × (c ≡ true) × (d ≡ true)
-all-four true true true true h = (refl, refl, refl, refl)
-all-four true true true false h = absurd (false≢true h)
-all-four true true false d h = absurd (false≢true h)
-all-four true false c d h = absurd (false≢true h)
-all-four false b c d h = absurd (false≢true h)
+all-five : (a b c d e : Bool) → five a b c d e ≡ true → (a ≡ true) × (b ≡ true) × (c ≡ true) × (d ≡ true) × (e ≡ true)
+all-five true true true true true h = (refl, refl, refl, refl, refl)
+all-five true true true true false h = absurd (false≢true h)
+all-five true true true false e h = absurd (false≢true h)
+all-five true true false d e h = absurd (false≢true h)
+all-five true false c d e h = absurd (false≢true h)
+all-five false b c d e h = absurd (false≢true h)
 
 pub allowed-sizes : (z : Sizes) → allowed z ≡ true → GoodSizes z
 allowed-sizes z h =
-    let t = all-four (leb (z .coils) most-coils) (leb (z .discretes) most-discretes) (leb (z .inputs) most-inputs) (leb (z .holding) most-holding) h in
+    let t =
+    all-five (leb (z .coils) most-coils) (leb (z .discretes) most-discretes) (leb (z .inputs) most-inputs) (leb (z .holding) most-holding)
+    (leb 1 (z .level) && leb (z .level) most-level) h in
+    let level = both (leb 1 (z .level)) (leb (z .level) most-level) (t .4) in
     record {
       coils = leb-true (z .coils) most-coils (t .0);
       discretes = leb-true (z .discretes) most-discretes (t .1);
       inputs = leb-true (z .inputs) most-inputs (t .2);
       holding = leb-true (z .holding) most-holding (t .3);
+      level-low = leb-true 1 (z .level) (level .0);
+      level-high = leb-true (z .level) most-level (level .1);
     }
 
 -- ---- references

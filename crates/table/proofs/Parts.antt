@@ -9,9 +9,8 @@ use lib.Dec.{leb, eqb}
 use lib.ListN.{length, take, drop, length-drop}
 use lib.Seq.{length-take-le}
 use Rattle.table.specs.declared.sizes.Sizes.{Sizes}
-use Rattle.table.specs.Table.{allowed, total, area, size-of, before, reference-fault, start-of, shown, part}
-use Rattle.bits.specs.Bit.{longest}
-use Rattle.table.specs.Sound.{Empty, other-class, fails-refusal, length-out, over-limit, wrong-size, EmptyExactly}
+use Rattle.table.specs.Table.{allowed, total, area, size-of, before, reference-fault, start-of, longest-in, shown, part}
+use Rattle.table.specs.Sound.{Empty, other-class, fails-refusal, length-out, bad-sizes, wrong-size, EmptyExactly}
 use Rattle.table.proofs.Good.{sizes-allowed, allowed-sizes, placed}
 
 -- six tests, of which all must hold
@@ -19,11 +18,11 @@ abbrev six : Bool → Bool → Bool → Bool → Bool → Bool → Bool
 six a b c d e f = (a && b) && ((c && d) && (e && f))
 
 module _ (words : ℕ) (z : Sizes) (class number n : ℕ) where
-  shown-by : (a b c d e f : Bool) → allowed z ≡ a → eqb words (total z) ≡ b → leb 1 n ≡ c → leb n longest ≡ d → area class ≡ e
+  shown-by : (a b c d e f : Bool) → allowed z ≡ a → eqb words (total z) ≡ b → leb 1 n ≡ c → leb n (longest-in z) ≡ d → area class ≡ e
       → eqb (reference-fault z class number n) 0 ≡ f → shown words z class number n ≡ six a b c d e f
   unfolding shown
   shown-by a b c d e f p q r s t u =
-      ap₂ (λ (x y : Bool). six x y (leb 1 n) (leb n longest) (area class) (eqb (reference-fault z class number n) 0)) p q
+      ap₂ (λ (x y : Bool). six x y (leb 1 n) (leb n (longest-in z)) (area class) (eqb (reference-fault z class number n) 0)) p q
       ∙ ap₂ (λ (x y : Bool). six a b x y (area class) (eqb (reference-fault z class number n) 0)) r s
       ∙ ap₂ (λ (x y : Bool). six a b c d x y) t u
 
@@ -54,23 +53,23 @@ module _ (words : ℕ) (z : Sizes) (class number n : ℕ) where
   pub no-word : leb 1 n ≡ false → shown words z class number n ≡ false
   no-word p = shown-by words z class number n _ _ false _ _ _ refl refl p refl refl refl ∙ never (allowed z && eqb words (total z))
 
-  pub too-long : leb n longest ≡ false → shown words z class number n ≡ false
+  pub too-long : leb n (longest-in z) ≡ false → shown words z class number n ≡ false
   too-long p = shown-by words z class number n _ _ _ false _ _ refl refl refl p refl refl ∙ fourth (allowed z && eqb words (total z)) (leb 1 n) _
 
   pub no-area : area class ≡ false → shown words z class number n ≡ false
-  no-area p = shown-by words z class number n _ _ _ _ false _ refl refl refl refl p refl ∙ fifth (allowed z && eqb words (total z)) (leb 1 n && leb n longest)
+  no-area p = shown-by words z class number n _ _ _ _ false _ refl refl refl refl p refl ∙ fifth (allowed z && eqb words (total z)) (leb 1 n && leb n (longest-in z))
 
   -- and where five hold, the sixth decides
-  pub by-fault : allowed z ≡ true → words ≡ total z → 1 ≤ n → n ≤ longest → area class ≡ true
+  pub by-fault : allowed z ≡ true → words ≡ total z → 1 ≤ n → n ≤ longest-in z → area class ≡ true
       → shown words z class number n ≡ eqb (reference-fault z class number n) 0
-  by-fault a w l u e = shown-by words z class number n true true true true true _ a (eq-eqb words (total z) w) (le-leb 1 n l) (le-leb n longest u) e refl
+  by-fault a w l u e = shown-by words z class number n true true true true true _ a (eq-eqb words (total z) w) (le-leb 1 n l) (le-leb n (longest-in z) u) e refl
 
 -- what a part that is shown rests on
 pub record Shown (words : ℕ) (z : Sizes) (class number n : ℕ) : Type 0 where
   pub sizes-allowed : allowed z ≡ true
   pub right-size : words ≡ total z
   pub some-words : 1 ≤ n
-  pub few : n ≤ longest
+  pub few : n ≤ longest-in z
   pub an-area : area class ≡ true
   pub fits : reference-fault z class number n ≡ 0
 
@@ -86,12 +85,12 @@ all-six false b c d e f h = absurd (false≢true h)
 pub shown-means : (words : ℕ) (z : Sizes) (class number n : ℕ) → shown words z class number n ≡ true → Shown words z class number n
 unfolding shown
 shown-means words z class number n h =
-    let t = all-six (allowed z) (eqb words (total z)) (leb 1 n) (leb n longest) (area class) (eqb (reference-fault z class number n) 0) h in
+    let t = all-six (allowed z) (eqb words (total z)) (leb 1 n) (leb n (longest-in z)) (area class) (eqb (reference-fault z class number n) 0) h in
     record {
       sizes-allowed = t .0;
       right-size = eqb-true words (total z) (t .1);
       some-words = leb-true 1 n (t .2);
-      few = leb-true n longest (t .3);
+      few = leb-true n (longest-in z) (t .3);
       an-area = t .4;
       fits = eqb-true (reference-fault z class number n) 0 (t .5);
     }
@@ -135,15 +134,15 @@ module _ (t : List ℕ) (z : Sizes) (class number n : ℕ) where
       omega (arith, s .some-words, long, ap length (sym (part-shown t z class number n h) ∙ e))
 
   -- a test that fails is a reason
-  reason : (a b c d e f : Bool) → allowed z ≡ a → eqb (length t) (total z) ≡ b → leb 1 n ≡ c → leb n longest ≡ d → area class ≡ e
+  reason : (a b c d e f : Bool) → allowed z ≡ a → eqb (length t) (total z) ≡ b → leb 1 n ≡ c → leb n (longest-in z) ≡ d → area class ≡ e
       → eqb (reference-fault z class number n) 0 ≡ f → six a b c d e f ≡ false → Empty t z class number n
   reason a b c d false f pa pb pc pd pe pf h =
       let is : (k : ℕ) → area k ≡ true → class ≡ k → ⊥ = λ k own q. false≢true (sym pe ∙ ap area q ∙ own) in
       other-class (is 0 refl) (is 1 refl) (is 3 refl) (is 4 refl)
   reason a b c d true false pa pb pc pd pe pf h = fails-refusal (eqb-false (reference-fault z class number n) 0 pf)
   reason a b false d true true pa pb pc pd pe pf h = length-out (λ q. false≢true (sym pc ∙ le-leb 1 n (q .0)))
-  reason a b true false true true pa pb pc pd pe pf h = length-out (λ q. false≢true (sym pd ∙ le-leb n longest (q .1)))
-  reason false b true true true true pa pb pc pd pe pf h = over-limit (λ g. false≢true (sym pa ∙ sizes-allowed z g))
+  reason a b true false true true pa pb pc pd pe pf h = length-out (λ q. false≢true (sym pd ∙ le-leb n (longest-in z) (q .1)))
+  reason false b true true true true pa pb pc pd pe pf h = bad-sizes (λ g. false≢true (sym pa ∙ sizes-allowed z g))
   reason true false true true true true pa pb pc pd pe pf h = wrong-size (eqb-false (length t) (total z) pb)
   reason true true true true true true pa pb pc pd pe pf h = absurd (false≢true (sym h))
 
@@ -153,7 +152,7 @@ module _ (t : List ℕ) (z : Sizes) (class number n : ℕ) where
       go : (b : Bool) → shown (length t) z class number n ≡ b → Empty t z class number n
       go true h = absurd (not-empty h e)
       go false h =
-          reason (allowed z) (eqb (length t) (total z)) (leb 1 n) (leb n longest) (area class) (eqb (reference-fault z class number n) 0)
+          reason (allowed z) (eqb (length t) (total z)) (leb 1 n) (leb n (longest-in z)) (area class) (eqb (reference-fault z class number n) 0)
           refl refl refl refl refl refl
           (sym (shown-by (length t) z class number n _ _ _ _ _ _ refl refl refl refl refl refl) ∙ h)
 
@@ -163,15 +162,15 @@ module _ (t : List ℕ) (z : Sizes) (class number n : ℕ) where
       no-area (length t) z class number n (simp (ne-eqb class 0 zero, ne-eqb class 1 one, ne-eqb class 3 three, ne-eqb class 4 four))
   hidden (fails-refusal h) =
       shown-by (length t) z class number n _ _ _ _ _ false refl refl refl refl refl (ne-eqb (reference-fault z class number n) 0 h)
-      ∙ ap (λ (b : Bool). (allowed z && eqb (length t) (total z)) && ((leb 1 n && leb n longest) && b)) (never (area class))
-      ∙ fifth (allowed z && eqb (length t) (total z)) (leb 1 n && leb n longest)
-  hidden (length-out h) = go (leb 1 n) (leb n longest) refl refl
+      ∙ ap (λ (b : Bool). (allowed z && eqb (length t) (total z)) && ((leb 1 n && leb n (longest-in z)) && b)) (never (area class))
+      ∙ fifth (allowed z && eqb (length t) (total z)) (leb 1 n && leb n (longest-in z))
+  hidden (length-out h) = go (leb 1 n) (leb n (longest-in z)) refl refl
     where
-      go : (a b : Bool) → leb 1 n ≡ a → leb n longest ≡ b → shown (length t) z class number n ≡ false
+      go : (a b : Bool) → leb 1 n ≡ a → leb n (longest-in z) ≡ b → shown (length t) z class number n ≡ false
       go false b p q = no-word (length t) z class number n p
       go true false p q = too-long (length t) z class number n q
-      go true true p q = absurd (h (leb-true 1 n p, leb-true n longest q))
-  hidden (over-limit h) = go (allowed z) refl
+      go true true p q = absurd (h (leb-true 1 n p, leb-true n (longest-in z) q))
+  hidden (bad-sizes h) = go (allowed z) refl
     where
       go : (a : Bool) → allowed z ≡ a → shown (length t) z class number n ≡ false
       go true p = absurd (h (allowed-sizes z p))

@@ -4,15 +4,20 @@ use mathlib.Core.Bool.{Bool, true, false, cond, _&&_}
 use Prim.Native.Nat.{ℕ, _+_, _-_, _/_, _≤_, _<_}
 use borrow.Author.Tests.{le-leb, lt-leb, eq-eqb, ne-eqb}
 use lib.Dec.{leb, eqb}
+use Rattle.level.specs.Level.{most-level}
 use Rattle.table.specs.declared.sizes.Sizes.{Sizes}
 use Rattle.table.specs.Table.{most-coils, most-discretes, most-inputs, most-holding, allowed, discrete, size-of, offset, bad-start, reference-fault}
 
--- sizes within their limits
-pub allowed-by : (z : Sizes) (a b c d : Bool) → leb (z .coils) most-coils ≡ a → leb (z .discretes) most-discretes ≡ b → leb (z .inputs) most-inputs ≡ c
-    → leb (z .holding) most-holding ≡ d → allowed z ≡ ((a && b) && (c && d))
-allowed-by z a b c d p q r s =
-    ap₂ (λ (x y : Bool). (x && y) && (leb (z .inputs) most-inputs && leb (z .holding) most-holding)) p q
-    ∙ ap₂ (λ (x y : Bool). (a && b) && (x && y)) r s
+-- sizes within their limits, and a level that is one
+abbrev pub five : Bool → Bool → Bool → Bool → Bool → Bool
+five a b c d e = ((a && b) && (c && d)) && e
+
+pub allowed-by : (z : Sizes) (a b c d e : Bool) → leb (z .coils) most-coils ≡ a → leb (z .discretes) most-discretes ≡ b → leb (z .inputs) most-inputs ≡ c
+    → leb (z .holding) most-holding ≡ d → (leb 1 (z .level) && leb (z .level) most-level) ≡ e → allowed z ≡ five a b c d e
+allowed-by z a b c d e p q r s t =
+    ap₂ (λ (x y : Bool). five x y (leb (z .inputs) most-inputs) (leb (z .holding) most-holding) (leb 1 (z .level) && leb (z .level) most-level)) p q
+    ∙ ap₂ (λ (x y : Bool). five a b x y (leb 1 (z .level) && leb (z .level) most-level)) r s
+    ∙ ap (five a b c d) t
 
 pub offset-none : (class number : ℕ) → number ≡ 0 → offset class number ≡ 0
 offset-none class number e = ap (offset class) e ∙ go (discrete class)

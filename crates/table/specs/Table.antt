@@ -3,12 +3,11 @@
 -- Assumes nothing.
 use Prim.Native.Nat.{ℕ, _+_, _-_, _/_, _%_}
 use mathlib.Core.Bool.{Bool, not, cond, _&&_, _||_}
-use mathlib.Core.List.{List, [], _∷_}
+use mathlib.Core.List.{[]}
 use lib.Dec.{leb, eqb}
 use lib.ListN.{length, take, drop}
 use Rattle.verdict.specs.Lists.{Table, Matrix}
-use Rattle.bits.specs.Bit.{longest}
-use Rattle.section.specs.Limit.{up-to}
+use Rattle.level.specs.Level.{most-level, at-level, single-length}
 use Rattle.table.specs.declared.sizes.Sizes.{Sizes}
 
 -- the limits in words
@@ -24,14 +23,11 @@ most-inputs = 512
 abbrev pub most-holding : ℕ
 most-holding = 9999
 
+-- every area is within its limit, and the level is 1 or 2
 abbrev pub allowed : Sizes → Bool
 allowed z =
-    (leb (z .coils) most-coils && leb (z .discretes) most-discretes) && (leb (z .inputs) most-inputs && leb (z .holding) most-holding)
-
--- what the sizes earn, in their order: a size past its limit (3)
-unfoldable pub sizes-faults : Sizes → List ℕ
-sizes-faults z =
-    up-to most-coils (z .coils) 3 ∷ up-to most-discretes (z .discretes) 3 ∷ up-to most-inputs (z .inputs) 3 ∷ up-to most-holding (z .holding) 3 ∷ []
+    ((leb (z .coils) most-coils && leb (z .discretes) most-discretes) && (leb (z .inputs) most-inputs && leb (z .holding) most-holding))
+    && (leb 1 (z .level) && leb (z .level) most-level)
 
 abbrev pub total : Sizes → ℕ
 total z = z .coils + z .discretes + z .inputs + z .holding
@@ -71,11 +67,15 @@ reference-fault z class number words =
 unfoldable pub start-of : Sizes → ℕ → ℕ → ℕ
 start-of z class number = before z class + offset class number
 
+-- how long a matrix may be that is asked for: as the level has it
+abbrev pub longest-in : Sizes → ℕ
+longest-in z = at-level single-length (z .level)
+
 -- whether a matrix of n words at a reference is shown in a table of so many words
 unfoldable pub shown : ℕ → Sizes → ℕ → ℕ → ℕ → Bool
-unfolding reference-fault
+unfolding reference-fault at-level
 shown words z class number n =
-    (allowed z && eqb words (total z)) && ((leb 1 n && leb n longest) && (area class && eqb (reference-fault z class number n) 0))
+    (allowed z && eqb words (total z)) && ((leb 1 n && leb n (longest-in z)) && (area class && eqb (reference-fault z class number n) 0))
 
 -- the part of the table that is that matrix, or an empty part
 unfoldable pub part : Table → Sizes → ℕ → ℕ → ℕ → Matrix

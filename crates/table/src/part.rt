@@ -3,7 +3,7 @@ use crate::sizes::Sizes;
 use crate::sizes::allowed;
 use crate::sizes::offset;
 use crate::sizes::reference_fault;
-use bits::LONGEST;
+use level::longest_at;
 ghost use mathlib.Core.Path.{_≡_};
 ghost use Rattle.table.specs.Table.{area, total, before, start-of, shown, part};
 
@@ -69,7 +69,7 @@ fn shown(words: usize, sizes: Sizes, class: u16, number: u16, n: u16) -> bool
     if n < 1 {
         return false;
     }
-    if LONGEST < n as usize {
+    if longest_at(sizes.level) < n {
         return false;
     }
     if !area(class) {

@@ -1,25 +1,26 @@
-// The sizes of the four areas, in words.
-use section::up_to;
+// The sizes of the four areas, in words, and the level.
+use level::MOST_LEVEL;
 ghost use mathlib.Core.Path.{_≡_};
-ghost use Rattle.section.specs.Walk.{word};
-ghost use Rattle.table.specs.Table.{allowed, sizes-faults, size-of, discrete, offset, bad-start, reference-fault};
+ghost use Rattle.table.specs.Table.{allowed, size-of, discrete, offset, bad-start, reference-fault};
 
 pub struct Sizes {
     pub coils: u16,
     pub discretes: u16,
     pub inputs: u16,
     pub holding: u16,
+    pub level: u16,
 }
 
-const MOST_COILS: usize = 128;
+// The limits in words.
+pub const MOST_COILS: usize = 128;
 
-const MOST_DISCRETES: usize = 128;
+pub const MOST_DISCRETES: usize = 128;
 
-const MOST_INPUTS: usize = 512;
+pub const MOST_INPUTS: usize = 512;
 
-const MOST_HOLDING: usize = 9999;
+pub const MOST_HOLDING: usize = 9999;
 
-// Whether every area is within its limit.
+// Whether every area is within its limit, and the level is one.
 pub fn allowed(sizes: Sizes) -> bool
     ensures { λ r. ⌜ r ≡ allowed sizes ⌝ }
 {
@@ -35,20 +36,10 @@ pub fn allowed(sizes: Sizes) -> bool
     if MOST_HOLDING < sizes.holding as usize {
         return false;
     }
-    true
-}
-
-// The refusal that size i earns, i counted from 0, or 0.
-pub fn size_fault(sizes: Sizes, i: usize) -> u16
-    ensures { λ r. ⌜ r ≡ word (sizes-faults sizes) i ⌝ }
-{
-    match i {
-        0 => up_to(MOST_COILS, sizes.coils as usize, 3),
-        1 => up_to(MOST_DISCRETES, sizes.discretes as usize, 3),
-        2 => up_to(MOST_INPUTS, sizes.inputs as usize, 3),
-        3 => up_to(MOST_HOLDING, sizes.holding as usize, 3),
-        _ => 0,
+    if sizes.level < 1 {
+        return false;
     }
+    sizes.level as usize <= MOST_LEVEL
 }
 
 // The words of a class's area.

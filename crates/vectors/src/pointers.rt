@@ -22,7 +22,7 @@ fn steps(at: u16, size: u16) -> bool {
 }
 
 pub(crate) fn all() -> bool {
-    // Sizes of 16n for n 1, 2 and 255.
+    // Sizes of 16n for n 1, 2, 255, 256 and 600.
     steps(0, 16)
         && steps(1, 16)
         && steps(15, 16)
@@ -34,11 +34,15 @@ pub(crate) fn all() -> bool {
         && steps(4079, 4080)
         && steps(4080, 4080)
         && steps(4081, 4080)
+        && steps(4096, 4096)
+        && steps(9599, 9600)
+        && steps(9600, 9600)
+        && steps(9601, 9600)
         // Sizes that are none.
         && steps(5, 0)
         && steps(5, 15)
         && steps(20, 17)
         && steps(4081, 4081)
-        && steps(4096, 4096)
+        && steps(9616, 9616)
         && steps(65535, 65520)
 }

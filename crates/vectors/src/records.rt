@@ -10,12 +10,16 @@ use record::Inputs;
 use record::Node;
 use table::Sizes;
 
-const AREAS: Sizes = Sizes {
-    coils: 32,
-    discretes: 16,
-    inputs: 96,
-    holding: 820,
-};
+// Areas at a level.
+fn areas(level: u16) -> Sizes {
+    Sizes {
+        coils: 32,
+        discretes: 16,
+        inputs: 96,
+        holding: 820,
+        level,
+    }
+}
 
 // These areas; CMPR of 40001 with 40003, whose pointer is 40002; BROT of 40004 and 40005 into 40006 and 40007, with power from
 // the CMPR's middle output.
@@ -58,7 +62,7 @@ const WORDS: [u16; 36] = [
     0,
 ];
 
-// These areas, and one block whose words are 0.
+// These areas at level 1, and one block whose words are 0.
 fn one_block() -> [u16; 36] {
     let mut words = [0; 36];
     words[0] = 4;
@@ -67,6 +71,15 @@ fn one_block() -> [u16; 36] {
     words[3] = 96;
     words[4] = 820;
     words[5] = 1;
+    words
+}
+
+// The same with the level among the words.
+fn one_block_at(level: u16) -> [u16; 36] {
+    let mut words = one_block();
+    words[0] = 5;
+    words[5] = level;
+    words[6] = 1;
     words
 }
 
@@ -144,8 +157,17 @@ fn written(sizes: Sizes, k: u16, block: Block, buffer: &mut [u16]) -> bool {
 fn round(row: [u16; 15]) -> bool {
     let mut words = one_block();
     print::numbers(b"\nrecord", &row)
-        && written(AREAS, 1, block_of(row), &mut words[6..21])
+        && written(areas(1), 1, block_of(row), &mut words[6..21])
         && read(&words, 21, 1)
+}
+
+// The same where the level is among the words.
+fn round_at(level: u16, row: [u16; 15]) -> bool {
+    let mut words = one_block_at(level);
+    print::numbers(b"\nrecord at level", &[level])
+        && print::numbers(b"", &row)
+        && written(areas(level), 1, block_of(row), &mut words[7..22])
+        && read(&words, 22, 1)
 }
 
 pub(crate) fn rounds() -> bool {
@@ -155,38 +177,53 @@ pub(crate) fn rounds() -> bool {
         && round([6, 255, 9, 999, 4, 566, 1, 0, 1, 0, 1, 0, 7, 7, 7])
         && round([7, 255, 9, 0, 4, 566, 1, 0, 5, 255, 4, 254, 0, 0, 0])
         && round([5, 0, 3, 1, 4, 724, 5, 1, 0, 0, 0, 0, 0, 0, 0])
+        // The length and the constant that Level 2 takes and Level 1 does not, and one more; levels that are none.
+        && round_at(1, [7, 255, 9, 999, 4, 566, 1, 0, 0, 0, 0, 0, 0, 0, 0])
+        && round_at(1, [7, 256, 9, 999, 4, 565, 1, 0, 0, 0, 0, 0, 0, 0, 0])
+        && round_at(1, [7, 255, 9, 1000, 4, 566, 1, 0, 0, 0, 0, 0, 0, 0, 0])
+        && round_at(2, [7, 600, 9, 9600, 4, 221, 1, 0, 0, 0, 0, 0, 0, 0, 0])
+        && round_at(2, [7, 601, 9, 9600, 4, 220, 1, 0, 0, 0, 0, 0, 0, 0, 0])
+        && round_at(2, [7, 600, 9, 9601, 4, 221, 1, 0, 0, 0, 0, 0, 0, 0, 0])
+        && round_at(2, [5, 101, 3, 1, 4, 719, 1, 0, 0, 0, 0, 0, 0, 0, 0])
+        && round_at(0, [7, 1, 9, 0, 4, 1, 1, 0, 0, 0, 0, 0, 0, 0, 0])
+        && round_at(3, [7, 1, 9, 0, 4, 1, 1, 0, 0, 0, 0, 0, 0, 0, 0])
 }
 
-// The writer on a CMPR of 40001 in a table of so many words of coils and three holding registers: k, how many words are lent,
-// the number of the pointer, the code and the number of the top input.
-fn write(coils: u16, k: u16, lent: u16, pointer: u16, code: u16, number: u16) -> bool {
+// The writer on a CMPR of 40001 in a table of so many words of coils and three holding registers, at a level: k, how many words are
+// lent, the number of the pointer, the code and the number of the top input.
+fn write(coils: u16, level: u16, k: u16, lent: u16, pointer: u16, code: u16, number: u16) -> bool {
     let sizes = Sizes {
         coils,
         discretes: 0,
         inputs: 0,
         holding: 3,
+        level,
     };
     let block = block_of([5, 1, 4, 1, 4, pointer, code, number, 0, 0, 0, 0, 0, 0, 0]);
     let mut buffer = [7; 16];
-    print::numbers(b"\nwriter", &[coils, k, lent, pointer, code, number])
+    print::numbers(b"\nwriter", &[coils, level, k, lent, pointer, code, number])
         && written(sizes, k, block, front_mut(&mut buffer, lent))
 }
 
 pub(crate) fn writer() -> bool {
     // The order of the writer's tests: sizes, k, the 15 words, the buffer.
-    write(129, 0, 14, 3, 1, 0)
-        && write(0, 0, 14, 3, 1, 0)
-        && write(0, 129, 14, 3, 1, 0)
-        && write(0, 1, 14, 3, 1, 0)
-        && write(0, 1, 14, 2, 1, 0)
-        && write(0, 1, 15, 2, 1, 0)
-        && write(0, 1, 16, 2, 1, 0)
-        && write(0, 128, 0, 2, 1, 0)
+    write(129, 1, 0, 14, 3, 1, 0)
+        && write(0, 0, 0, 14, 3, 1, 0)
+        && write(0, 3, 0, 14, 3, 1, 0)
+        && write(0, 3, 1, 15, 2, 1, 0)
+        && write(0, 2, 1, 15, 2, 1, 0)
+        && write(0, 1, 0, 14, 3, 1, 0)
+        && write(0, 1, 129, 14, 3, 1, 0)
+        && write(0, 1, 1, 14, 3, 1, 0)
+        && write(0, 1, 1, 14, 2, 1, 0)
+        && write(0, 1, 1, 15, 2, 1, 0)
+        && write(0, 1, 1, 16, 2, 1, 0)
+        && write(0, 1, 128, 0, 2, 1, 0)
         // A record that reads an earlier block: k says how many are earlier.
-        && write(0, 1, 15, 2, 6, 1)
-        && write(0, 2, 15, 2, 6, 1)
-        && write(0, 128, 15, 2, 8, 127)
-        && write(0, 128, 15, 2, 8, 128)
+        && write(0, 1, 1, 15, 2, 6, 1)
+        && write(0, 1, 2, 15, 2, 6, 1)
+        && write(0, 1, 128, 15, 2, 8, 127)
+        && write(0, 1, 128, 15, 2, 8, 128)
 }
 
 // The reader: how many blocks, how many words are lent, and k.

@@ -23,12 +23,12 @@ abbrev pub WrittenIsRead : Type 0
 WrittenIsRead =
     (ws : Words) (k : ℕ) (b : Block) (buffer : Words) → checked ws .number ≡ 0 → 1 ≤ k → k ≤ block-count (network-in ws)
     → write-verdict (network-in ws .sizes) k b (length buffer) .number ≡ 0
-    → Reads (placed ws (record-start (k - 1)) (write-buffer (network-in ws .sizes) k b buffer)) k b
+    → Reads (placed ws (record-start ws (k - 1)) (write-buffer (network-in ws .sizes) k b buffer)) k b
 
 -- the writer is not refused, and writes the words that stand at block k
 pub record SameWords (ws : Words) (k : ℕ) (b : Block) (buffer : Words) : Type 0 where
   pub is-written : write-verdict (network-in ws .sizes) k b (length buffer) ≡ done
-  pub words : write-buffer (network-in ws .sizes) k b buffer ≡ run ws (record-start (k - 1)) record-words
+  pub words : write-buffer (network-in ws .sizes) k b buffer ≡ run ws (record-start ws (k - 1)) record-words
 
 -- A record that the reader gives as the record of block k is written back as the words that it was read from.
 abbrev pub ReadIsWritten : Type 0

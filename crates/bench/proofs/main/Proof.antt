@@ -38,7 +38,7 @@ to-words-requires c κs = search needs
 few : (c : tie.After-words2) → c .before .to-words .result .count ≤ length (c .before .to-words .last .1 .0)
 few c =
     let read = c .before .before .before .before .before .before .before .read-input in
-    let enough : words-count (take (read .result .count) (read .last .0)) ≤ 12697 = omega (arith, length-take-le (read .result .count) (read .last .0) (read .ensures), read .ensures, read .kept .0) in
+    let enough : words-count (take (read .result .count) (read .last .0)) ≤ 12698 = omega (arith, length-take-le (read .result .count) (read .last .0) (read .ensures), read .ensures, read .kept .0) in
     omega (arith, enough, count-is _ _ enough (c .before .to-words .ensures), c .before .to-words .kept .1 .0)
 
 array-share-prefix-words : tie.Need-array-share-prefix-words

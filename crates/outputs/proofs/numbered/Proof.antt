@@ -32,8 +32,8 @@ returns c =
     numbered-refused (now (x .words)) (now (x .table)) (x .room) (s .before .before .before .at-most-blocks .ensures) (replicate 128 0) (length-replicate {A = ℕ} 128 0)
     (s .scan-packed .ensures) (c .if1 .taken)
 
-word-requires : tie.Need-word-requires
-word-requires c κs = search needs
+block-count-requires : tie.Need-block-count-requires
+block-count-requires c κs = search needs
 
 cast-t14 : tie.Need-cast-t14
 cast-t14 c = search needs
@@ -46,7 +46,7 @@ returns-2 c =
     let s = c .before .before .before .before .before .before in
     let x = s .before .before .before .before .before .before .args in
     numbered-done (now (x .words)) (now (x .table)) (x .room) (s .before .before .before .at-most-blocks .ensures) (replicate 128 0) (length-replicate {A = ℕ} 128 0)
-    (s .scan-packed .ensures) (c .before .if1 .left) _ (c .word .ensures)
+    (s .scan-packed .ensures) (c .before .if1 .left) _ (c .block-count .ensures)
 
 pub numbered-spec : {M : Type 1} → statement M
 numbered-spec =
@@ -58,7 +58,7 @@ numbered-spec =
     scan-packed-requires
     same-length
     returns
-    word-requires
+    block-count-requires
     cast-t14
     same-length-2
     returns-2)

@@ -7,6 +7,8 @@ use denote.Ref.{now}
 use Rattle.network.specs.declared.checker.Opened.{Opened}
 use Rattle.table.specs.Table.{total}
 use Rattle.network.specs.Check.{network-in}
+use Rattle.areas.specs.Areas.{areas-end}
+use Rattle.areas.proofs.Laws.{areas-few}
 use Rattle.network.proofs.Networks.{sizes-is, end-is}
 use Rattle.file.specs.File.{last-end, largest-table}
 use Rattle.file.proofs.Files.{begun-file, check-refused, check-passed}
@@ -17,7 +19,7 @@ use Rattle.file.proofs.checker.check.Tie as tie
 near : (c : tie.After-total) → c .before .before .next .result ≤ last-end
 near c =
     let ws = now (c .before .before .before .before .before .args .words) in
-    omega (arith, c .before .before .next .ensures, ap (λ (x : Opened). x .next) (c .before .before .before .leading .ensures), end-is ws, c .before .before .before .before .shared-slice-known .given 5)
+    omega (arith, c .before .before .next .ensures, ap (λ (x : Opened). x .next) (c .before .before .before .leading .ensures), end-is ws, areas-few ws, c .before .before .before .before .shared-slice-known .given (areas-end ws))
 
 summed : (c : tie.After-total) → c .total .result ≡ total (c .before .before .before .leading .result .sizes)
 summed c = c .total .ensures ∙ ap total (c .before .sizes .ensures)

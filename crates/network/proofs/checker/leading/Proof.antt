@@ -1,20 +1,28 @@
 -- `network::checker::leading` meets its contract: the areas are judged first, then the blocks. Assumes nothing.
 use borrow.Author.Needs.{needs}
-use mathlib.Core.Path.{sym, ap, _∙_}
-use Prim.Native.Nat.{ℕ, _+_, _*_}
+use native.Mathlib.Omega.{arith}
+use mathlib.Core.Path.{_≡_, ap}
+use Prim.Native.Nat.{_≤_}
 use denote.Ref.{now}
-use lib.ListN.{length, drop}
-use Rattle.section.specs.Walk.{seek}
-use Rattle.section.specs.Section.{section-earns}
-use Rattle.table.specs.declared.sizes.Sizes.{Sizes}
-use Rattle.network.specs.Network.{areas-only}
-use Rattle.network.specs.Check.{blocks-section}
-use Rattle.network.proofs.Networks.{sizes-is, count-is, end-is, areas-refused, areas-passed}
+use Rattle.areas.specs.declared.Areas.{Areas}
+use Rattle.areas.specs.Areas.{areas-end}
+use Rattle.areas.proofs.Laws.{areas-few}
+use Rattle.network.proofs.Networks.{areas-lead, blocks-lead}
 use Rattle.network.proofs.checker.leading.Statement.{statement}
 use Rattle.network.proofs.checker.leading.Tie as tie
 
-sizes-in-requires : tie.Need-sizes-in-requires
-sizes-in-requires c κs = search needs
+-- the areas end at word 6 at the latest
+few : (c : tie.After-areas-of) → c .areas-of .result .end ≤ 6
+few c =
+    let ws = now (c .before .before .args .words) in
+    let ended : c .areas-of .result .end ≡ areas-end ws = ap (λ (a : Areas). a .end) (c .areas-of .ensures) in
+    omega (arith, ended, areas-few ws)
+
+areas-of-requires : tie.Need-areas-of-requires
+areas-of-requires c κs = search needs
+
+cast-word : tie.Need-cast-word
+cast-word c = search needs
 
 word-requires : tie.Need-word-requires
 word-requires c κs = search needs
@@ -22,53 +30,39 @@ word-requires c κs = search needs
 cast-next : tie.Need-cast-next
 cast-next c = search needs
 
-mul-next : tie.Need-mul-next
-mul-next c = search needs
-
 add-next : tie.Need-add-next
 add-next c = search needs
 
-areas-requires : tie.Need-areas-requires
-areas-requires c κs = search needs
+cast-next-2 : tie.Need-cast-next-2
+cast-next-2 c = search needs
+
+mul-next : tie.Need-mul-next
+mul-next c = search needs
+
+add-next-2 : tie.Need-add-next-2
+add-next-2 c = search needs
 
 returns : tie.Need-returns
-returns c =
-    let ws = now (c .before .before .before .before .before .before .args .words) in
-    let counted = c .before .before .before .word .ensures in
-    λ i. record {
-      verdict = areas-refused ws (c .before .before .areas .ensures) (c .if1 .taken) i;
-      sizes = (c .before .before .before .before .sizes-in .ensures ∙ sym (sizes-is ws)) i;
-      count = (counted ∙ sym (count-is ws)) i;
-      next = (ap (λ (n : ℕ). 6 + 15 * n) counted ∙ sym (end-is ws)) i;
-    }
+returns c = areas-lead (now (c .before .before .before .before .before .before .before .args .words)) (c .before .before .before .before .before .areas-of .result) (c .before .before .before .before .before .areas-of .ensures) (c .before .before .word .ensures) (c .if1 .taken)
 
 blocks-requires : tie.Need-blocks-requires
-blocks-requires c κs = search needs
+blocks-requires c κs = (few (c .before .before .before .before .before), c .before .before .word .ensures)
 
 returns-2 : tie.Need-returns-2
-returns-2 c =
-    let ws = now (c .before .before .before .before .before .before .before .args .words) in
-    let sized = c .before .before .before .before .before .sizes-in .ensures in
-    let counted = c .before .before .before .before .word .ensures in
-    λ i. record {
-      verdict =
-          areas-passed ws (c .before .before .before .areas .ensures) (c .before .if1 .left)
-          (c .blocks2 .ensures ∙ ap (λ (z : Sizes). seek (section-earns blocks-section (areas-only z) (drop 5 ws)) (length ws) 5) sized) i;
-      sizes = (sized ∙ sym (sizes-is ws)) i;
-      count = (counted ∙ sym (count-is ws)) i;
-      next = (ap (λ (n : ℕ). 6 + 15 * n) counted ∙ sym (end-is ws)) i;
-    }
+returns-2 c = blocks-lead (now (c .before .before .before .before .before .before .before .before .args .words)) (c .before .before .before .before .before .before .areas-of .result) (c .before .before .before .before .before .before .areas-of .ensures) (c .before .before .before .word .ensures) (c .before .if1 .left) (c .blocks2 .ensures)
 
 pub leading-spec : {M : Type 1} → statement M
 leading-spec =
     tie.close
     (tie.spec
-    sizes-in-requires
+    areas-of-requires
+    cast-word
     word-requires
     cast-next
-    mul-next
     add-next
-    areas-requires
+    cast-next-2
+    mul-next
+    add-next-2
     returns
     blocks-requires
     returns-2)

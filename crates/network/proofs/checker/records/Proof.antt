@@ -2,7 +2,7 @@
 use borrow.Author.Needs.{needs}
 use native.Mathlib.Omega.{arith}
 use mathlib.Core.Path.{_≡_, ap, _∙_}
-use Prim.Native.Nat.{_-_, _*_}
+use Prim.Native.Nat.{_+_, _-_, _*_}
 use denote.Ref.{now}
 use lib.ListN.{length, drop}
 use Rattle.section.specs.Walk.{seek}
@@ -11,27 +11,27 @@ use Rattle.section.proofs.Words.{rest-from}
 use Rattle.record.specs.declared.Block.{Block}
 use Rattle.record.specs.Record.{record-words, block-in}
 use Rattle.rules.specs.Fault.{judged}
-use Rattle.network.specs.Check.{block-faults, record-start}
+use Rattle.network.specs.Check.{block-faults}
 use Rattle.network.proofs.Networks.{block-faults-long}
 use Rattle.network.proofs.checker.records.Statement.{statement}
 use Rattle.network.proofs.checker.records.Tie as tie
 
 abbrev Inv-loop : tie.InvT-loop
-Inv-loop words sizes count j₀ j = Passed record-words (block-faults sizes) (block-faults-long sizes) (length words) 6 count (drop 6 words) j
+Inv-loop words sizes from count j₀ j = Passed record-words (block-faults sizes) (block-faults-long sizes) (length words) from count (drop from words) j
 
 abbrev μ-loop : tie.MeasureT-loop
-μ-loop words sizes count j₀ j = count - j
+μ-loop words sizes from count j₀ j = count - j
 
 -- the block that was judged is the one after the first j
 here : (c : tie.After-judged Inv-loop μ-loop) → let x = c .before .before .before .before .before .args in
     let j = c .before .before .before .loop .j in
-    c .judged .result ≡ seek (block-faults (x .sizes) j (drop (record-words * j) (drop 6 (now (x .words))))) (length (now (x .words))) (record-start j)
+    c .judged .result ≡ seek (block-faults (x .sizes) j (drop (record-words * j) (drop (x .from) (now (x .words))))) (length (now (x .words))) (x .from + record-words * j)
 unfolding block-faults
 here c =
     let x = c .before .before .before .before .before .args in
     let j = c .before .before .before .loop .j in
     c .judged .ensures
-    ∙ ap (λ (b : Block). judged (x .sizes) j b (record-start j) (length (now (x .words)))) (c .before .block-at .ensures ∙ ap block-in (rest-from (now (x .words)) 6 (record-words * j)))
+    ∙ ap (λ (b : Block). judged (x .sizes) j b (x .from + record-words * j) (length (now (x .words)))) (c .before .block-at .ensures ∙ ap block-in (rest-from (now (x .words)) (x .from) (record-words * j)))
 
 loop-holds : tie.Need-loop-holds Inv-loop μ-loop
 loop-holds c = none-passed _ _ _ _ _ _ _
@@ -43,7 +43,7 @@ mul-at : tie.Need-mul-at Inv-loop μ-loop
 mul-at c = omega arith
 
 add-at : tie.Need-add-at Inv-loop μ-loop
-add-at c = omega arith
+add-at c = omega (arith, c .before .before .before .pre)
 
 block-at-requires : tie.Need-block-at-requires Inv-loop μ-loop
 block-at-requires c κs = search needs

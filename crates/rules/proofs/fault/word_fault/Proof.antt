@@ -6,6 +6,7 @@ use Prim.Native.Nat.{ℕ, zero, suc, _+_, _<_}
 use Rattle.section.specs.Walk.{word}
 use Rattle.section.specs.Limit.{counted}
 use Rattle.section.proofs.Limits.{none-below}
+use Rattle.level.specs.Level.{at-level}
 use Rattle.table.specs.declared.sizes.Sizes.{Sizes}
 use Rattle.record.specs.declared.Block.{Block}
 use Rattle.rules.specs.declared.rules.Rule.{Rule}
@@ -42,6 +43,9 @@ cast-counted c = search needs
 
 counted-requires : tie.Need-counted-requires
 counted-requires c κs = search needs
+
+at-level-requires : tie.Need-at-level-requires
+at-level-requires c κs = search needs
 
 cast-counted-2 : tie.Need-cast-counted-2
 cast-counted-2 c = search needs
@@ -148,7 +152,7 @@ returns c = let x = c .before .before .before .before .before .args in arm (x .s
 
 returns-2 : tie.Need-returns-2
 unfolding faults
-returns-2 c = let x = c .before .before .before .before .before .before .args in arm (x .sizes) (x .earlier) (x .block) (c .counted2 .ensures ∙ ap (λ (r : Rule). counted (r .most) (x .block .n) 5) (c .before .before .before .before .before .before .pre)) (c .before .before .before .match .keys2)
+returns-2 c = let x = c .before .before .before .before .before .before .args in arm (x .sizes) (x .earlier) (x .block) (c .counted2 .ensures ∙ ap (λ (most : ℕ). counted most (x .block .n) 5) (c .before .before .at-level .ensures ∙ ap (λ (r : Rule). at-level (r .most) (x .sizes .level)) (c .before .before .before .before .before .before .pre))) (c .before .before .before .match .keys2)
 
 returns-3 : tie.Need-returns-3
 unfolding faults
@@ -211,6 +215,7 @@ word-fault-spec =
     (tie.spec
     cast-counted
     counted-requires
+    at-level-requires
     cast-counted-2
     cast-counted-3
     counted-requires-2
