@@ -110,7 +110,7 @@ def write_file(seed, path):
 def parse(arguments):
     parser = argparse.ArgumentParser(description=__doc__, formatter_class=argparse.RawDescriptionHelpFormatter)
     parser.add_argument("--seed", type=int, default=1, help="the first file's seed (1)")
-    parser.add_argument("--count", type=int, default=2000, help="the number of files (2000)")
+    parser.add_argument("--count", type=int, default=3000, help="the number of files (3000)")
     parser.add_argument("--jobs", type=int, default=os.cpu_count(), help="workers (the number of processors)")
     parser.add_argument("--largest", action="store_true", help="run the largest file too")
     parser.add_argument("--write", nargs=2, metavar=("SEED", "FILE"), help="write one seed's file and end")

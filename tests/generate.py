@@ -11,11 +11,11 @@ from collections import namedtuple
 
 from model import (
     AND, AREAS, BROT, CMPR, COILS, COMP, CONSTANT, DISCRETES, GREATEST_CONSTANT, GREATEST_COUNT, GREATEST_SCANS, HOLDING,
-    INPUTS, INPUT_REGISTERS, LIMITS, MBIT, OR, POINTER, RULES, SENS, XOR, Block, Input, Node, first_bit, pointer_node,
-    second_number, words_of,
+    INPUTS, INPUT_REGISTERS, LEVELS, LIMITS, MBIT, OR, POINTER, RULES, SENS, XOR, Block, Input, Node, first_bit,
+    pointer_node, second_number, words_of,
 )
 
-LEVELS = ("top", "middle", "bottom")
+HEIGHTS = ("top", "middle", "bottom")
 NO_COILS = [0, 0, 0]
 
 # Kinds that share a row of the rules.
@@ -51,48 +51,64 @@ def share_of(dice, shares):
     raise AssertionError("the shares are a hundred")
 
 
-# ---- Shapes: how large a file is -----------------------------------------------------------------
+# ---- Levels --------------------------------------------------------------------------------------
 
-Shape = namedtuple("Shape", "sizes count scans")
+# A level, and whether it is among the file's words: level 1 may be left out.
+Level = namedtuple("Level", "number told")
+LEFT_OUT = Level(1, False)
+
+
+def level_of(dice, number=None):
+    """That level, or any; level 1 mostly left out."""
+    number = number or dice.pick([1, 1, 2])
+    return Level(number, number != 1 or dice.chance(30))
+
+
+# ---- Shapes: how large a file is, and its level --------------------------------------------------
+
+Shape = namedtuple("Shape", "sizes count scans level")
 
 
 def shape_of(dice):
-    return share_of(dice, SHAPES)(dice)
+    return share_of(dice, SHAPES)(dice, level_of(dice))
 
 
-def small(dice):
+def small(dice, level):
     sizes = {COILS: dice.pick([0, 1, 1, 2, 3, 4]), INPUTS: dice.pick([0, 1, 1, 2, 3]),
              INPUT_REGISTERS: dice.pick([0, 1, 2, 4, 5]), HOLDING: dice.pick([0, 2, 4, 5, 6, 8, 8, 10, 12, 16])}
-    return Shape(sizes, dice.between(1, 10), dice.pick([1, 2, 3, 4, 4, 6, 8, 20]))
+    return Shape(sizes, dice.between(1, 10), dice.pick([1, 2, 3, 4, 4, 6, 8, 20]), level)
 
 
-def at_limits(dice):
+def at_limits(dice, level):
     """One area, or each, at its limit."""
-    sizes = small(dice).sizes
+    sizes = small(dice, level).sizes
     for area in dice.pick([(COILS,), (INPUTS,), (INPUT_REGISTERS,), (HOLDING,), AREAS]):
         sizes[area] = LIMITS[area]
-    return Shape(sizes, dice.between(1, 5), dice.between(1, 3))
+    return Shape(sizes, dice.between(1, 5), dice.between(1, 3), level)
 
 
-def many_blocks(dice):
-    return Shape(small(dice).sizes, dice.pick([GREATEST_COUNT, GREATEST_COUNT, GREATEST_COUNT - 1]), dice.between(1, 2))
+def many_blocks(dice, level):
+    count = dice.pick([GREATEST_COUNT, GREATEST_COUNT, GREATEST_COUNT - 1])
+    return small(dice, level)._replace(count=count, scans=dice.between(1, 2))
 
 
-def many_scans(dice):
-    return Shape(small(dice).sizes, dice.between(0, 2), dice.pick([GREATEST_SCANS, GREATEST_SCANS, GREATEST_SCANS - 1]))
+def many_scans(dice, level):
+    scans = dice.pick([GREATEST_SCANS, GREATEST_SCANS, GREATEST_SCANS - 1])
+    return small(dice, level)._replace(count=dice.between(0, 2), scans=scans)
 
 
-def bare(dice):
+def bare(dice, level):
     """No blocks, or no words in the table, or neither."""
-    sizes = dice.pick([small(dice).sizes, {area: 0 for area in AREAS}])
-    return Shape(sizes, dice.pick([0, 0, 2]), dice.pick([1, 2, GREATEST_SCANS]))
+    sizes = dice.pick([small(dice, level).sizes, {area: 0 for area in AREAS}])
+    return Shape(sizes, dice.pick([0, 0, 2]), dice.pick([1, 2, GREATEST_SCANS]), level)
 
 
-def long_blocks(dice):
-    """Areas wide enough for the greatest lengths, 100 and 255."""
+def long_blocks(dice, level):
+    """Areas wide enough for the greatest lengths, 100 and 255 or 600."""
+    wide_ones = [101, 255, 256, 300, 520] if level.number == 1 else [101, 256, 600, 601, 700]
     sizes = {COILS: dice.pick([100, 128]), INPUTS: dice.pick([100, 128]), INPUT_REGISTERS: dice.pick([100, 255, 300]),
-             HOLDING: dice.pick([101, 255, 256, 300, 520])}
-    return Shape(sizes, dice.between(1, 6), dice.between(1, 4))
+             HOLDING: dice.pick(wide_ones)}
+    return Shape(sizes, dice.between(1, 6), dice.between(1, 4), level)
 
 
 # The share of each shape in a hundred.
@@ -110,6 +126,7 @@ class Plan:
         self.sizes = shape.sizes
         self.count = shape.count
         self.scans = shape.scans
+        self.level = shape.level
         self.blocks = []
         last = 16 * shape.sizes[COILS]
         self.coils = [dice.pick([1, 16, last, dice.between(1, last)]) for _ in range(4)] if last else []
@@ -177,11 +194,12 @@ def place_block(plan, kind, n, top, middle):
 
 
 def length_for(plan, rule, top, middle):
-    greatest = rule.longest
+    longest = rule.longest[plan.level.number]
+    greatest = longest
     for what, class_ in ((rule.top, top), (rule.middle, middle)):
         if what != POINTER:
             greatest = min(greatest, plan.sizes[class_] - words_of(what, 1) + 1)
-    if greatest == rule.longest and plan.dice.chance(40):
+    if greatest == longest and plan.dice.chance(40):
         return greatest
     return min(greatest, plan.dice.pick([1, 1, 2, 2, 2, 3, greatest, greatest, plan.dice.between(1, greatest)]))
 
@@ -211,14 +229,14 @@ def distance_for(plan, what, n):
 
 def node_at(plan, n, class_, word):
     if class_ == CONSTANT:
-        return Node(CONSTANT, min(GREATEST_CONSTANT, pointer_for(plan.dice, n)))
+        return Node(CONSTANT, min(GREATEST_CONSTANT[plan.level.number], pointer_for(plan.dice, n)))
     return Node(class_, 16 * word + 1 if class_ in DISCRETES else word + 1)
 
 
 def pointer_for(dice, n):
     """A pointer's value: at each edge of a matrix of n words, within it, over it."""
     size = 16 * n
-    return dice.pick([0, 1, size - 1, size, size, size + 1, 999, 65535, dice.below(65536),
+    return dice.pick([0, 1, size - 1, size, size, size + 1, 999, 9600, 65535, dice.below(65536),
                       dice.between(1, size), dice.between(1, size), dice.between(1, size)])
 
 
@@ -351,9 +369,11 @@ class File:
         self.labels.append((label, k))
 
     def put_all(self, plan, areas):
-        self.put("areas", 4)
+        self.put("areas", 5 if plan.level.told else 4)
         for area in AREAS:
             self.put("size %d" % area, plan.sizes[area])
+        if plan.level.told:
+            self.put("level", plan.level.number)
         self.put("blocks", len(plan.blocks))
         for k, block in enumerate(plan.blocks, 1):
             self.put_block(block, k)
@@ -370,10 +390,10 @@ class File:
         for name, node in zip(("top", "middle"), (block.top, block.middle)):
             self.put(name + " class", node.class_, k)
             self.put(name + " number", node.number, k)
-        for name, given in zip(LEVELS, block.inputs):
+        for name, given in zip(HEIGHTS, block.inputs):
             self.put(name + " code", given.code, k)
             self.put(name + " input", given.number, k)
-        for name, coil in zip(LEVELS, block.coils):
+        for name, coil in zip(HEIGHTS, block.coils):
             self.put(name + " coil", coil, k)
 
     def places(self, label, k=None):
@@ -390,10 +410,10 @@ def file_for(plan):
 
 # ---- Faults --------------------------------------------------------------------------------------
 
-# A fault: the label of the word it spoils (* is any of the levels), the kinds of block it belongs to (none where any
-# will do), the class or code to put before a number (None to leave it), and what the word becomes: a number, or a
-# function of Around.
-Case = namedtuple("Case", "label kinds before word")
+# A fault: the label of the word it spoils (* is any of the heights), the kinds of block it belongs to (none where any
+# will do), the class or code to put before a number (None to leave it), what the word becomes: a number, or a
+# function of Around; and the level of the file (None where any will do).
+Case = namedtuple("Case", "label kinds before word level", defaults=(None,))
 
 # What a word may depend on: the number of blocks and of the table's words; the block's number k; the last right number
 # and the area's last reference, for the operand or contact in question; the last coil.
@@ -402,27 +422,38 @@ Around = namedtuple("Around", "blocks total k last end coils")
 
 def cases():
     """All faults, mixed; those outside the nodes stand there more than once, as they are few."""
-    found = section_cases() + input_cases() * 2 + [case for kinds in ROWS for case in length_cases(kinds) + node_cases(kinds)]
+    found = section_cases() + input_cases() * 2
+    for kinds in ROWS:
+        found += node_cases(kinds) + [case for level in LEVELS for case in length_cases(kinds, level) + constant_cases(kinds, level)]
     dice = Dice(0)
     return sorted(found, key=lambda case: dice.random())
 
 
 def section_cases():
     """Faults of the counts, the sizes and the scans, and of words that no kind stands behind."""
-    words = {"areas": [0, 3, 5, 65535], "run": [0, 0, 2, 2, 2, 65535], "kind": [0, 0, 0, 9, 9, 9, 10, 65535],
+    words = {"areas": [0, 3, 4, 5, 6, 6, 65535], "level": [0, 0, 0, 1, 2, 3, 3, 3, 4, 65535], "run": [0, 0, 2, 2, 2, 65535], "kind": [0, 0, 0, 9, 9, 9, 10, 65535],
              "scans": [0, 0, 0, 0, 1001, 1001, 1001, 1001, 65535],
              "blocks": [128, 129, 129, 129, 65535, lambda at: at.blocks + 1, lambda at: at.blocks - 1],
              "image": [lambda at: at.total + 1, lambda at: at.total - 1] * 3 + [0, 65535]}
     for area in AREAS:
         words["size %d" % area] = [LIMITS[area] + 1] * 5 + [LIMITS[area], 65535]
-    return [Case(label, (), None, word) for label in sorted(words) for word in words[label]]
+    before_level = [Case("size %d" % HOLDING, (), None, LIMITS[HOLDING] + 1, 2)] * 6
+    return [Case(label, (), None, word) for label in sorted(words) for word in words[label]] + before_level
 
 
-def length_cases(kinds):
-    """Faults of a block's length, for each kind of a row of the rules, and right lengths that are long."""
-    longest = RULES[kinds[0]].longest
-    lengths = [0, longest] + [longest + 1] * 3 + [128, 255, 256, 65535]
-    return [Case("n", (kind,), None, n) for kind in kinds for n in lengths]
+def length_cases(kinds, level):
+    """Faults of a block's length at a level, for each kind of a row of the rules, and right lengths that are long."""
+    longest = RULES[kinds[0]].longest[level]
+    lengths = [0, longest] + [longest + 1] * 3 + [255, 600, 65535]
+    return [Case("n", (kind,), None, n, level) for kind in kinds for n in lengths]
+
+
+def constant_cases(kinds, level):
+    """The greatest constant at a level, and constants past it, where a row of the rules takes one."""
+    if CONSTANT not in RULES[kinds[0]].top_classes:
+        return []
+    greatest = GREATEST_CONSTANT[level]
+    return [Case("top number", kinds, CONSTANT, word, level) for word in (greatest, greatest + 1, greatest + 1, 1000, 65535)]
 
 
 def node_cases(kinds):
@@ -432,14 +463,12 @@ def node_cases(kinds):
     for name, classes in (("top", rule.top_classes), ("middle", rule.middle_classes)):
         refused = [class_ for class_ in (0, 1, 3, 4, 9, 2, 65535) if class_ not in classes]
         found += [Case(name + " class", kinds, None, class_) for class_ in refused] * 2
-        found += [Case(name + " number", kinds, class_, word) for class_ in classes for word in bad_numbers(class_)]
+        found += [Case(name + " number", kinds, class_, word) for class_ in classes if class_ != CONSTANT for word in bad_numbers(class_)]
     return found
 
 
 def bad_numbers(class_):
     """Numbers that are wrong in a class, and the last right one."""
-    if class_ == CONSTANT:
-        return [999, 1000, 1000, 65535]
     if class_ in DISCRETES:
         return [0, 2, 16, last_right, lambda at: at.last + 1, lambda at: at.last + 16, lambda at: at.end + 1]
     return [0, last_right, lambda at: at.last + 1, lambda at: at.last + 1, lambda at: at.end + 1, 65535]
@@ -470,7 +499,7 @@ CASES = cases()
 
 def spoil(dice, file, case, k=None):
     """Put a case's fault into the file, in block k or, without one, where it fits; gives its place."""
-    label = case.label.replace("*", dice.pick(LEVELS))
+    label = case.label.replace("*", dice.pick(HEIGHTS))
     i = dice.pick(file.places(label, k) or file.places(label) or file.places("run"))
     k = file.labels[i][1]
     if case.before is not None and k > 0:
@@ -493,7 +522,7 @@ def reach(plan, case, k):
         return last, last
     block = plan.blocks[k - 1]
     if case.before == CONSTANT:
-        return GREATEST_CONSTANT, GREATEST_CONSTANT
+        return 0, 0
     rule = RULES[block.kind]
     size = plan.sizes[case.before]
     last = size - words_of(rule.top if case.label.startswith("top") else rule.middle, block.n)
@@ -550,7 +579,8 @@ WAYS = [(38, (alone, keep)), (8, (anywhere, keep)), (10, (in_block, keep)), (12,
 def damaged(dice, case):
     """A file with the fault of a case, and perhaps more."""
     long = case.label == "n" and 0 < case.word < 65535 and dice.chance(70)
-    plan = plan_of(dice, wide(dice) if long else damaged_shape(dice))
+    level = Level(dice.pick(LEVELS), True) if case.label == "level" else level_of(dice, case.level)
+    plan = plan_of(dice, wide(dice, level) if long else damaged_shape(dice, level))
     k = put_kind(plan, dice.pick(case.kinds), case.word if long else None) if case.kinds else None
     file = file_for(plan)
     more, end = share_of(dice, WAYS)
@@ -559,18 +589,18 @@ def damaged(dice, case):
     return end(dice, file.data(), i)
 
 
-def damaged_shape(dice):
+def damaged_shape(dice, level):
     """Small, no area of 0 as a rule, so that every kind has its place."""
-    shape = small(dice)
+    shape = small(dice, level)
     if dice.chance(85):
         shape = shape._replace(sizes={area: max(2, shape.sizes[area]) for area in AREAS})
     return shape
 
 
-def wide(dice):
+def wide(dice, level):
     """Areas that hold the lengths which are refused, so that nothing else is wrong with them."""
-    shape = long_blocks(dice)
-    return shape._replace(sizes={**shape.sizes, COILS: 128, HOLDING: 600})
+    shape = long_blocks(dice, level)
+    return shape._replace(sizes={**shape.sizes, COILS: 128, HOLDING: 700})
 
 
 def put_kind(plan, kind, n):
@@ -585,7 +615,7 @@ def put_kind(plan, kind, n):
 
 def ragged(dice):
     """A file with a bad end alone, or with a word changed at random."""
-    file = file_for(plan_of(dice, shape_of(dice) if dice.chance(10) else small(dice)))
+    file = file_for(plan_of(dice, shape_of(dice) if dice.chance(10) else small(dice, level_of(dice))))
     data = file.data()
     roll = dice.below(100)
     if roll < 55:
@@ -611,8 +641,8 @@ def bench_file(seed):
 
 
 def largest_file():
-    """As much of everything as the document allows."""
-    return file_for(plan_of(Dice(1), Shape(dict(LIMITS), GREATEST_COUNT, GREATEST_SCANS))).data()
+    """As much of everything as the documents allow."""
+    return file_for(plan_of(Dice(1), Shape(dict(LIMITS), GREATEST_COUNT, GREATEST_SCANS, Level(2, True)))).data()
 
 
 if __name__ == "__main__":

@@ -14,7 +14,7 @@ import os
 import sys
 
 from compare import first_difference, run_program
-from generate import ALWAYS, NEVER, NO_COILS, Dice, File, Plan, Shape, block_for, image_for, probe_of
+from generate import ALWAYS, NEVER, NO_COILS, Dice, File, Plan, Shape, block_for, image_for, level_of, probe_of
 from model import (
     AND, AREAS, CMPR, COILS, COMP, CONSTANT, HOLDING, MBIT, OR, SENS, WORK, XOR, Block, Input, Node, first_bit, pointer_node,
     second_number,
@@ -43,7 +43,7 @@ def named(block):
 
 def plan_for(dice, kind):
     """One block of that kind, its inputs always or never, with power on top as a rule."""
-    plan = Plan(dice, Shape({area: dice.between(3, 8) for area in AREAS}, 1, 1))
+    plan = Plan(dice, Shape({area: dice.between(3, 8) for area in AREAS}, 1, 1, level_of(dice)))
     inputs = [Input(int(dice.chance(percent)), 0) for percent in (80, 50, 50)]
     plan.blocks.append(block_for(plan, kind)._replace(inputs=inputs))
     return plan

@@ -1,8 +1,8 @@
 #!/usr/bin/env python3
-"""Document 01 a second time: what the bench must print for a file, told with lists of bits.
+"""Documents 01 and 02 a second time: what the bench must print for a file, told with lists of bits.
 
 Use: `tests/model.py < FILE`, or `answer(data)` on the file's bytes.
-Each function stands under the sentence it says. `open:` marks a point that the document leaves open.
+Each function stands under the sentence it says, "02" before those of document 02. `open:` marks a point that the documents leave open.
 """
 import sys
 from collections import namedtuple
@@ -20,9 +20,12 @@ DISCRETES = (COILS, INPUTS)
 # "Limits in words: 128, 128, 512, 9999."
 LIMITS = {COILS: 128, INPUTS: 128, INPUT_REGISTERS: 512, HOLDING: 9999}
 
-# "9 a constant whose number is its value, 0 to 999"
+# 02: "the fifth word being the level, 1 or 2; count 4 means Level 1"
+LEVELS = (1, 2)
+
+# "9 a constant whose number is its value, 0 to 999"; 02: "constants to 9600"
 CONSTANT = 9
-GREATEST_CONSTANT = 999
+GREATEST_CONSTANT = {1: 999, 2: 9600}
 
 # "Blocks: count 0 to 128"
 GREATEST_COUNT = 128
@@ -30,19 +33,23 @@ GREATEST_COUNT = 128
 # "then scans, 1 to 1000"
 GREATEST_SCANS = 1000
 
+# "n 1 to 100", "1 to 255"; 02: "document 002 allows MBIT and SENS 600 registers"
+LONGEST = {1: 100, 2: 100}
+LONGEST_SINGLE = {1: 255, 2: 600}
+
 # "The rules for the eight kinds stand in one constant table, and every check reads them there"
 MATRIX, POINTER, POINTER_AND_MATRIX = "matrix", "pointer", "pointer and matrix"
 Rule = namedtuple("Rule", "top top_classes middle middle_classes longest")
-LOGIC_RULE = Rule(MATRIX, (0, 1, 3, 4), MATRIX, (0, 4), 100)
+LOGIC_RULE = Rule(MATRIX, (0, 1, 3, 4), MATRIX, (0, 4), LONGEST)
 RULES = {
     AND: LOGIC_RULE,
     OR: LOGIC_RULE,
     XOR: LOGIC_RULE,
     COMP: LOGIC_RULE,
     BROT: LOGIC_RULE,
-    CMPR: Rule(MATRIX, (0, 1, 3, 4), POINTER_AND_MATRIX, (4,), 100),
-    MBIT: Rule(POINTER, (3, 4, 9), MATRIX, (0, 4), 255),
-    SENS: Rule(POINTER, (3, 4, 9), MATRIX, (0, 1, 3, 4), 255),
+    CMPR: Rule(MATRIX, (0, 1, 3, 4), POINTER_AND_MATRIX, (4,), LONGEST),
+    MBIT: Rule(POINTER, (3, 4, 9), MATRIX, (0, 4), LONGEST_SINGLE),
+    SENS: Rule(POINTER, (3, 4, 9), MATRIX, (0, 1, 3, 4), LONGEST_SINGLE),
 }
 
 # "kind; length n; top node (class, number); middle node (class, number);
@@ -94,10 +101,19 @@ class Words:
 
 
 # "Areas: count 4, then the four sizes in words." 2: "a section's count is not an allowed one"
+# 02: "The areas section may have count 5, the fifth word being the level"; "2 for a count that is neither 4 nor 5"
 def read_areas(words):
     count = words.take()
-    words.refuse_when(count != 4, 2)
-    return {area: read_size(words, area) for area in AREAS}
+    words.refuse_when(count not in (4, 5), 2)
+    sizes = {area: read_size(words, area) for area in AREAS}
+    return sizes, read_level(words) if count == 5 else 1
+
+
+# 02: "3 for another level, at its word"
+def read_level(words):
+    level = words.take()
+    words.refuse_when(level not in LEVELS, 3)
+    return level
 
 
 # 3: "an area size over its limit"; "An area may be 0 words long."
@@ -108,19 +124,19 @@ def read_size(words, area):
 
 
 # "Blocks: count 0 to 128, then 15 words for each block"
-def read_blocks(words, sizes):
+def read_blocks(words, sizes, level):
     count = words.take()
     words.refuse_when(count > GREATEST_COUNT, 2)
-    return [read_block(words, sizes, k) for k in range(1, count + 1)]
+    return [read_block(words, sizes, level, k) for k in range(1, count + 1)]
 
 
 # "kind; length n; top node ...; middle node ...; top, middle and bottom input ...; three coil numbers"
-def read_block(words, sizes, k):
+def read_block(words, sizes, level, k):
     kind = read_kind(words)
     rule = RULES[kind]
-    n = read_length(words, rule.longest)
-    top = read_node(words, sizes, n, rule.top, rule.top_classes)
-    middle = read_node(words, sizes, n, rule.middle, rule.middle_classes)
+    n = read_length(words, rule.longest[level])
+    top = read_node(words, sizes, level, n, rule.top, rule.top_classes)
+    middle = read_node(words, sizes, level, n, rule.middle, rule.middle_classes)
     inputs = [read_input(words, sizes, k) for _ in range(3)]
     coils = [read_coil(words, sizes) for _ in range(3)]
     return Block(kind, n, top, middle, inputs, coils)
@@ -133,7 +149,7 @@ def read_kind(words):
     return kind
 
 
-# 5: "n out of range for the kind"
+# 5: "n out of range for the kind"; 02: "5 and 6 use the level's limits"
 def read_length(words, longest):
     n = words.take()
     words.refuse_when(n < 1 or n > longest, 5)
@@ -141,25 +157,25 @@ def read_length(words, longest):
 
 
 # 6: "class not allowed in that node"
-def read_node(words, sizes, n, what, classes):
+def read_node(words, sizes, level, n, what, classes):
     class_ = words.take()
     words.refuse_when(class_ not in classes, 6)
     number = words.take()
-    check_number(words, sizes, n, what, class_, number)
+    check_number(words, sizes, level, n, what, class_, number)
     return Node(class_, number)
 
 
 # "At one word the lower number wins."
-def check_number(words, sizes, n, what, class_, number):
-    words.refuse_when(number_fault(class_, number), 6)
+def check_number(words, sizes, level, n, what, class_, number):
+    words.refuse_when(number_fault(level, class_, number), 6)
     words.refuse_when(start_fault(what, class_, number), 7)
     words.refuse_when(past_fault(sizes, n, what, class_, number), 8)
 
 
-# 6: "number 0 where no constant; constant over 999"
-def number_fault(class_, number):
+# 6: "number 0 where no constant; constant over 999"; 02: "5 and 6 use the level's limits"
+def number_fault(level, class_, number):
     if class_ == CONSTANT:
-        return number > GREATEST_CONSTANT
+        return number > GREATEST_CONSTANT[level]
     return number == 0
 
 
@@ -241,8 +257,8 @@ def read_run(words):
 # "It reads one file from standard input"
 def read_file(data):
     words = Words(data)
-    sizes = read_areas(words)
-    blocks = read_blocks(words, sizes)
+    sizes, level = read_areas(words)
+    blocks = read_blocks(words, sizes, level)
     table = read_image(words, sizes)
     scans = read_run(words)
     words.end()

@@ -1,4 +1,4 @@
-"""Wrong readings of document 01, each as a small edit of model.py's text, for wrong.py.
+"""Wrong readings of documents 01 and 02, each as a small edit of model.py's text, for wrong.py.
 
 A reading has a name, a line that says what is wrong, and one or more edits (old text, new text).
 Each old text stands exactly once in the text it is applied to.
@@ -48,21 +48,31 @@ for area, limit in (("COILS", 128), ("INPUTS", 128), ("INPUT_REGISTERS", 512), (
     for wrong_limit in (limit - 1, limit + 1):
         reading("%s limit %d" % (area.lower(), wrong_limit), "the area's limit is %d words" % wrong_limit,
                 LIMITS, LIMITS.replace("%s: %d" % (area, limit), "%s: %d" % (area, wrong_limit)))
-for name, limit in (("GREATEST_CONSTANT", 999), ("GREATEST_COUNT", 128), ("GREATEST_SCANS", 1000)):
+for name, limit in (("GREATEST_COUNT", 128), ("GREATEST_SCANS", 1000)):
     for wrong_limit in (limit - 1, limit + 1):
         reading("%s %d" % (name.lower(), wrong_limit), "the limit is %d" % wrong_limit,
                 "%s = %d\n" % (name, limit), "%s = %d\n" % (name, wrong_limit))
-for name, row, wrong_limits in (
-        ("logic", "LOGIC_RULE = Rule(MATRIX, (0, 1, 3, 4), MATRIX, (0, 4), 100)", (99, 101, 255)),
-        ("CMPR", "CMPR: Rule(MATRIX, (0, 1, 3, 4), POINTER_AND_MATRIX, (4,), 100)", (99, 101, 255)),
-        ("MBIT", "MBIT: Rule(POINTER, (3, 4, 9), MATRIX, (0, 4), 255)", (100, 254, 256)),
-        ("SENS", "SENS: Rule(POINTER, (3, 4, 9), MATRIX, (0, 1, 3, 4), 255)", (100, 254, 256))):
+
+# Each limit by level, as the model has it, and the wrong numbers for each level.
+CONSTANTS = "GREATEST_CONSTANT = {1: 999, 2: 9600}"
+for level, wrong_limits in ((1, (998, 1000, 9600)), (2, (999, 9599, 9601))):
     for wrong_limit in wrong_limits:
-        reading("%s longest %d" % (name, wrong_limit), "n goes to %d" % wrong_limit, row, "%s%d)" % (row[:-4], wrong_limit))
+        reading("constant at level %d %d" % (level, wrong_limit), "constants go to %d at level %d" % (wrong_limit, level),
+                CONSTANTS, CONSTANTS + "\nGREATEST_CONSTANT[%d] = %d" % (level, wrong_limit))
+for name, row, levels in (
+        ("logic", "LOGIC_RULE = Rule(MATRIX, (0, 1, 3, 4), MATRIX, (0, 4), LONGEST)", {1: (99, 101, 255), 2: (99, 101, 255, 600)}),
+        ("CMPR", "CMPR: Rule(MATRIX, (0, 1, 3, 4), POINTER_AND_MATRIX, (4,), LONGEST)", {1: (99, 101, 255), 2: (99, 101, 600)}),
+        ("MBIT", "MBIT: Rule(POINTER, (3, 4, 9), MATRIX, (0, 4), LONGEST_SINGLE)", {1: (100, 254, 256, 600), 2: (255, 599, 601)}),
+        ("SENS", "SENS: Rule(POINTER, (3, 4, 9), MATRIX, (0, 1, 3, 4), LONGEST_SINGLE)", {1: (100, 254, 256, 600), 2: (255, 599, 601)})):
+    for level in levels:
+        for wrong_limit in levels[level]:
+            start, lengths = row[:-1].rsplit(" ", 1)
+            reading("%s longest %d at level %d" % (name, wrong_limit, level), "n goes to %d at level %d" % (wrong_limit, level),
+                    row, "%s {**%s, %d: %d})" % (start, lengths, level, wrong_limit))
 for kind in ("AND", "OR", "XOR", "COMP", "BROT"):
     for wrong_limit in (99, 101, 255):
         reading("%s longest %d" % (kind, wrong_limit), "n goes to %d for %s alone" % (wrong_limit, kind),
-                "    %s: LOGIC_RULE,\n" % kind, "    %s: LOGIC_RULE._replace(longest=%d),\n" % (kind, wrong_limit))
+                "    %s: LOGIC_RULE,\n" % kind, "    %s: LOGIC_RULE._replace(longest={1: %d, 2: %d}),\n" % (kind, wrong_limit, wrong_limit))
 reading("n of 0", "a length of 0 is allowed", "n < 1 or n > longest", "n > longest")
 reading("no scans", "0 scans are allowed", "scans < 1 or scans", "scans")
 reading("kind 0", "kind 0 is AND", "words.refuse_when(kind < 1 or kind > 8, 4)",
@@ -71,17 +81,63 @@ reading("kind 9", "kind 9 is BROT", "words.refuse_when(kind < 1 or kind > 8, 4)"
         "words.refuse_when(kind < 1 or kind > 9, 4)\n    kind = min(kind, 8)")
 
 # -------------------------------------------------------------------------------------------------
+part("levels")
+
+COUNTS = "    words.refuse_when(count not in (4, 5), 2)\n"
+LEVEL = "    return sizes, read_level(words) if count == 5 else 1\n"
+KNOWN = "    words.refuse_when(level not in LEVELS, 3)\n"
+reading("no level", "count 5 is not allowed", COUNTS, COUNTS.replace("not in (4, 5)", "!= 4"))
+reading("level everywhere", "count 4 is not allowed", COUNTS, COUNTS.replace("not in (4, 5)", "!= 5"))
+reading("count 6", "count 6 is allowed, its last word anything", COUNTS, COUNTS.replace("(4, 5)", "(4, 5, 6)"),
+        LEVEL, "    level = read_level(words) if count > 4 else 1\n    if count == 6:\n        words.take()\n    return sizes, level\n")
+reading("count 3", "count 3 is allowed: no holding registers", COUNTS, COUNTS.replace("(4, 5)", "(3, 4, 5)"),
+        "    sizes = {area: read_size(words, area) for area in AREAS}\n",
+        "    sizes = {area: 0 if count == 3 and area == HOLDING else read_size(words, area) for area in AREAS}\n")
+reading("count 4 is level 2", "count 4 means Level 2", LEVEL, LEVEL.replace("else 1", "else 2"))
+reading("count 5 is level 2", "count 5 means Level 2, whatever its fifth word says", LEVEL, "    if count == 5:\n        read_level(words)\n" + LEVEL.replace("read_level(words)", "2"))
+reading("count 5 is level 1", "the level changes nothing", LEVEL, "    if count == 5:\n        read_level(words)\n    return sizes, 1\n")
+reading("levels swapped", "level 1 is the larger machine", LEVEL, LEVEL.replace("read_level(words)", "3 - read_level(words)"))
+reading("level 0", "level 0 is Level 1", KNOWN, "    level = level or 1\n" + KNOWN)
+reading("level 3", "level 3 is Level 2", KNOWN, "    level = 2 if level == 3 else level\n" + KNOWN)
+reading("any level", "every other level is Level 2", KNOWN, "    level = 1 if level == 1 else 2\n")
+reading("level 1 refused", "a level of its own word has to be 2", KNOWN, KNOWN.replace("not in LEVELS", "!= 2"))
+reading("level 2 refused", "a level of its own word has to be 1", KNOWN, KNOWN.replace("not in LEVELS", "!= 1"))
+reading("level first", "the level stands before the sizes",
+        "    sizes = {area: read_size(words, area) for area in AREAS}\n" + LEVEL,
+        "    level = read_level(words) if count == 5 else 1\n"
+        "    sizes = {area: read_size(words, area) for area in AREAS}\n    return sizes, level\n")
+reading("level judged first", "the level is judged before the sizes",
+        "    sizes = {area: read_size(words, area) for area in AREAS}\n",
+        "    if count == 5 and len(words.data) >= 12:\n"
+        "        words.place += 4\n        read_level(words)\n        words.place -= 5\n"
+        "    sizes = {area: read_size(words, area) for area in AREAS}\n")
+reading("level at the count", "another level is refused at the count", KNOWN, "    words.place -= 5 * (level not in LEVELS)\n" + KNOWN)
+reading("level in the image", "the image counts the level as a word", "    words.refuse_when(count != sum(sizes.values()), 2)\n",
+        "    words.refuse_when(count != sum(sizes.values()) + read_areas.told, 2)\n",
+        LEVEL, "    read_areas.told = int(count == 5)\n" + LEVEL)
+reading("level in the words", "the first line counts the level as a word", "len(blocks), sum(sizes.values()))", "len(blocks), sum(sizes.values()) + read_areas.told)",
+        LEVEL, "    read_areas.told = int(count == 5)\n" + LEVEL)
+reading("places without level", "places do not count the level", "    words.refuse_when(level not in LEVELS, 3)\n    return level\n",
+        "    words.refuse_when(level not in LEVELS, 3)\n    words.data = words.data[:10] + words.data[12:]\n    words.place -= 1\n    return level\n")
+reading("holding by level", "Level 2 has more holding registers", "    words.refuse_when(size > LIMITS[area], 3)\n",
+        "    words.refuse_when(size > LIMITS[area] + (words.data[:2] == b\"\\0\\5\"), 3)\n")
+reading("constant over 16n", "a constant may not be over 16n", "        return number > GREATEST_CONSTANT[level]\n",
+        "        return number > min(GREATEST_CONSTANT[level], 16 * number_fault.n)\n",
+        "    words.refuse_when(number_fault(level, class_, number), 6)\n", "    number_fault.n = n\n    words.refuse_when(number_fault(level, class_, number), 6)\n")
+
+# -------------------------------------------------------------------------------------------------
 part("refusal numbers")
 
 reading("1 as 11", "missing words give 11", "raise Refused(1, self.place)", "raise Refused(11, self.place)")
 reading("11 as 1", "words left over give 1", "raise Refused(11, self.place + 1)", "raise Refused(1, self.place + 1)")
-reading("areas as 3", "a bad count of areas gives 3", "(count != 4, 2)", "(count != 4, 3)")
+reading("areas as 3", "a bad count of areas gives 3", "(count not in (4, 5), 2)", "(count not in (4, 5), 3)")
+reading("level as 2", "another level gives 2", "(level not in LEVELS, 3)", "(level not in LEVELS, 2)")
 reading("size as 2", "an area over its limit gives 2", "(size > LIMITS[area], 3)", "(size > LIMITS[area], 2)")
 reading("count as 3", "too many blocks give 3", "(count > GREATEST_COUNT, 2)", "(count > GREATEST_COUNT, 3)")
 reading("kind as 5", "an unknown kind gives 5", "kind > 8, 4)", "kind > 8, 5)")
 reading("n as 4", "a length out of range gives 4", "n > longest, 5)", "n > longest, 4)")
 reading("class as 4", "a class not allowed gives 4", "(class_ not in classes, 6)", "(class_ not in classes, 4)")
-reading("number as 8", "number 0 or a constant over 999 gives 8", "(class_, number), 6)", "(class_, number), 8)")
+reading("number as 8", "number 0 or a constant over 999 gives 8", "(level, class_, number), 6)", "(level, class_, number), 8)")
 reading("start as 8", "a bad start gives 8", "what, class_, number), 7)\n    words.refuse_when(past", "what, class_, number), 8)\n    words.refuse_when(past")
 reading("past as 7", "an operand past its area gives 7", "what, class_, number), 8)", "what, class_, number), 7)")
 reading("code as 6", "an unknown input code gives 6", "(code > 8, 9)", "(code > 8, 6)")
@@ -96,7 +152,7 @@ reading("scans as 2", "scans out of range give 2", "scans > GREATEST_SCANS, 3)",
 # -------------------------------------------------------------------------------------------------
 part("refusal order and place")
 
-SIX = "    words.refuse_when(number_fault(class_, number), 6)\n"
+SIX = "    words.refuse_when(number_fault(level, class_, number), 6)\n"
 SEVEN = "    words.refuse_when(start_fault(what, class_, number), 7)\n"
 EIGHT = "    words.refuse_when(past_fault(sizes, n, what, class_, number), 8)\n"
 reading("7 before 6", "a bad start wins over number 0", SIX + SEVEN, SEVEN + SIX)
@@ -104,18 +160,18 @@ reading("8 before 7", "running past wins over a bad start", SEVEN + EIGHT, EIGHT
 reading("place from 0", "places count from 0", "(refusal.number, refusal.place)", "(refusal.number, refusal.place - 1)")
 reading("place in bytes", "places count bytes", "(refusal.number, refusal.place)", "(refusal.number, 2 * refusal.place - 1)")
 reading("place in record", "places in a block count from 1 to 15",
-        "    return [read_block(words, sizes, k) for k in range(1, count + 1)]",
+        "    return [read_block(words, sizes, level, k) for k in range(1, count + 1)]",
         "    start = words.place\n"
         "    try:\n"
-        "        return [read_block(words, sizes, k) for k in range(1, count + 1)]\n"
+        "        return [read_block(words, sizes, level, k) for k in range(1, count + 1)]\n"
         "    except Refused as first:\n"
         "        raise Refused(first.number, (first.place - start - 1) % 15 + 1)")
 reading("class at number", "the class is judged after the number's word is taken",
         "    words.refuse_when(class_ not in classes, 6)\n    number = words.take()\n",
         "    number = words.take()\n    words.refuse_when(class_ not in classes, 6)\n")
 reading("number at class", "a number's fault has the place of its class",
-        "    check_number(words, sizes, n, what, class_, number)\n",
-        "    words.place -= 1\n    check_number(words, sizes, n, what, class_, number)\n    words.place += 1\n")
+        "    check_number(words, sizes, level, n, what, class_, number)\n",
+        "    words.place -= 1\n    check_number(words, sizes, level, n, what, class_, number)\n    words.place += 1\n")
 reading("number before class", "the number's faults are judged before the class",
         "    words.refuse_when(class_ not in classes, 6)\n    number = words.take()\n",
         "    number = words.take()\n"
@@ -133,24 +189,24 @@ reading("n before kind", "a length over 255 wins over an unknown kind",
         "    kind = read_kind(words)\n",
         "    words.take()\n    words.refuse_when(words.take() > 255, 5)\n    words.place -= 2\n    kind = read_kind(words)\n")
 reading("lower in a block", "the lower number of a block's two nodes wins",
-        "    top = read_node(words, sizes, n, rule.top, rule.top_classes)\n",
+        "    top = read_node(words, sizes, level, n, rule.top, rule.top_classes)\n",
         "    start = words.place\n"
         "    try:\n"
-        "        top = read_node(words, sizes, n, rule.top, rule.top_classes)\n"
+        "        top = read_node(words, sizes, level, n, rule.top, rule.top_classes)\n"
         "    except Refused as first:\n"
         "        words.place = start + 2\n"
         "        try:\n"
-        "            read_node(words, sizes, n, rule.middle, rule.middle_classes)\n"
+        "            read_node(words, sizes, level, n, rule.middle, rule.middle_classes)\n"
         "        except Refused as second:\n"
         "            raise min(first, second, key=lambda refusal: refusal.number)\n"
         "        raise first\n")
 reading("lower of all blocks", "of the faults in several blocks the lowest number wins",
-        "    return [read_block(words, sizes, k) for k in range(1, count + 1)]",
+        "    return [read_block(words, sizes, level, k) for k in range(1, count + 1)]",
         "    start, blocks, faults = words.place, [], []\n"
         "    for k in range(1, count + 1):\n"
         "        words.place = start + 15 * (k - 1)\n"
         "        try:\n"
-        "            blocks.append(read_block(words, sizes, k))\n"
+        "            blocks.append(read_block(words, sizes, level, k))\n"
         "        except Refused as fault:\n"
         "            faults.append(fault)\n"
         "    if faults:\n"
@@ -162,20 +218,20 @@ reading("record whole first", "a block's 15 words have to be there before the fi
         "        raise Refused(1, len(words.data) // 2 + 1)\n"
         "    kind = read_kind(words)\n")
 reading("blocks whole first", "all blocks' words have to be there before the first is judged",
-        "    return [read_block(words, sizes, k) for k in range(1, count + 1)]",
+        "    return [read_block(words, sizes, level, k) for k in range(1, count + 1)]",
         "    if len(words.data) // 2 < words.place + 15 * count:\n"
         "        raise Refused(1, len(words.data) // 2 + 1)\n"
-        "    return [read_block(words, sizes, k) for k in range(1, count + 1)]")
+        "    return [read_block(words, sizes, level, k) for k in range(1, count + 1)]")
 reading("sizes after count", "the area sizes are judged when all four are read",
-        "    return {area: read_size(words, area) for area in AREAS}",
+        "    sizes = {area: read_size(words, area) for area in AREAS}\n",
         "    for _ in AREAS:\n        words.take()\n    words.place -= 4\n"
-        "    return {area: read_size(words, area) for area in AREAS}")
+        "    sizes = {area: read_size(words, area) for area in AREAS}\n")
 reading("nodes after inputs", "the inputs are judged before the nodes",
-        "    top = read_node(words, sizes, n, rule.top, rule.top_classes)\n",
+        "    top = read_node(words, sizes, level, n, rule.top, rule.top_classes)\n",
         "    words.place += 4\n"
         "    inputs = [read_input(words, sizes, k) for _ in range(3)]\n"
         "    words.place -= 10\n"
-        "    top = read_node(words, sizes, n, rule.top, rule.top_classes)\n")
+        "    top = read_node(words, sizes, level, n, rule.top, rule.top_classes)\n")
 reading("left over first", "words left over win over a bad number of scans",
         "    words.refuse_when(scans < 1", "    words.end()\n    words.refuse_when(scans < 1")
 
@@ -202,7 +258,7 @@ reading("start 0", "a discrete matrix starts at a multiple of 16", "number % 16 
 reading("start free", "a discrete matrix starts anywhere", "class_ in DISCRETES and number % 16 != 1", "class_ in DISCRETES and number % 16 > 16")
 reading("start for coils only", "the start rule holds for coils alone", "class_ in DISCRETES and number % 16", "class_ == COILS and number % 16")
 reading("number 0", "number 0 is no fault of its own", "    return number == 0\n\n\n# 7", "    return False\n\n\n# 7")
-reading("constant 0", "the constant 0 is refused", "return number > GREATEST_CONSTANT", "return number == 0 or number > GREATEST_CONSTANT")
+reading("constant 0", "the constant 0 is refused", "return number > GREATEST_CONSTANT[level]", "return number == 0 or number > GREATEST_CONSTANT[level]")
 reading("past by one", "an operand may end one word past its area",
         "> 16 * sizes[class_]\n", "> 16 * sizes[class_] + 16\n")
 reading("full area", "an operand may not reach its area's last word",
@@ -213,16 +269,16 @@ reading("CMPR n registers", "CMPR's middle node needs n registers", "        ret
 reading("CMPR n+2 registers", "CMPR's middle node needs n+2 registers", "        return n + 1\n", "        return n + 2\n")
 reading("pointer of n", "a pointer needs n registers", "    if what == POINTER:\n        return 1\n", "    if what == POINTER:\n        return n\n")
 for name, row, wrong_row, wrong in (
-        ("logic to inputs", "MATRIX, (0, 4), 100)", "MATRIX, (0, 1, 4), 100)", "a destination may be discrete inputs"),
-        ("logic to input registers", "MATRIX, (0, 4), 100)", "MATRIX, (0, 3, 4), 100)", "a destination may be input registers"),
-        ("logic to coils", "MATRIX, (0, 4), 100)", "MATRIX, (4,), 100)", "a destination may not be coils"),
-        ("CMPR with coils", "POINTER_AND_MATRIX, (4,), 100)", "POINTER_AND_MATRIX, (0, 4), 100)", "CMPR's middle node may be coils"),
-        ("CMPR with input registers", "POINTER_AND_MATRIX, (4,), 100)", "POINTER_AND_MATRIX, (3, 4), 100)", "CMPR's middle node may be input registers"),
-        ("MBIT in inputs", "MATRIX, (0, 4), 255)", "MATRIX, (0, 1, 3, 4), 255)", "MBIT's matrix may be inputs"),
+        ("logic to inputs", "MATRIX, (0, 4), LONGEST)", "MATRIX, (0, 1, 4), LONGEST)", "a destination may be discrete inputs"),
+        ("logic to input registers", "MATRIX, (0, 4), LONGEST)", "MATRIX, (0, 3, 4), LONGEST)", "a destination may be input registers"),
+        ("logic to coils", "MATRIX, (0, 4), LONGEST)", "MATRIX, (4,), LONGEST)", "a destination may not be coils"),
+        ("CMPR with coils", "POINTER_AND_MATRIX, (4,), LONGEST)", "POINTER_AND_MATRIX, (0, 4), LONGEST)", "CMPR's middle node may be coils"),
+        ("CMPR with input registers", "POINTER_AND_MATRIX, (4,), LONGEST)", "POINTER_AND_MATRIX, (3, 4), LONGEST)", "CMPR's middle node may be input registers"),
+        ("MBIT in inputs", "MATRIX, (0, 4), LONGEST_SINGLE)", "MATRIX, (0, 1, 3, 4), LONGEST_SINGLE)", "MBIT's matrix may be inputs"),
         ("MBIT without constant", "MBIT: Rule(POINTER, (3, 4, 9)", "MBIT: Rule(POINTER, (3, 4)", "MBIT's pointer may not be a constant"),
         ("MBIT with coils", "MBIT: Rule(POINTER, (3, 4, 9)", "MBIT: Rule(POINTER, (0, 3, 4, 9)", "MBIT's pointer may be coils"),
         ("SENS without constant", "SENS: Rule(POINTER, (3, 4, 9)", "SENS: Rule(POINTER, (3, 4)", "SENS's pointer may not be a constant"),
-        ("SENS as MBIT", "MATRIX, (0, 1, 3, 4), 255)", "MATRIX, (0, 4), 255)", "SENS's matrix may not be inputs")):
+        ("SENS as MBIT", "MATRIX, (0, 1, 3, 4), LONGEST_SINGLE)", "MATRIX, (0, 4), LONGEST_SINGLE)", "SENS's matrix may not be inputs")):
     reading(name, wrong, row, wrong_row)
 reading("code 9", "input code 9 is known", "(code > 8, 9)", "(code > 9, 9)")
 reading("numbers of 0 and 1", "the number after codes 0 and 1 is not looked at", "return number != 0", "return False")
@@ -243,7 +299,7 @@ reading("coil 0", "coil 0 is refused", "coil > 16 * sizes[COILS]", "coil == 0 or
 reading("image short", "the image count may be over the sum", "count != sum(sizes.values())", "count < sum(sizes.values())")
 reading("image long", "the image count may be under the sum", "count != sum(sizes.values())", "count > sum(sizes.values())")
 reading("run count", "the run's count is not looked at", "(count != 1, 2)", "(False, 2)")
-reading("areas count", "more than four areas are allowed", "(count != 4, 2)", "(count < 4, 2)")
+reading("areas count", "a count over 5 is as 4", "(count not in (4, 5), 2)", "(count < 4, 2)")
 
 # -------------------------------------------------------------------------------------------------
 part("the scan")

@@ -87,7 +87,7 @@ def table_lines(results):
 def parse(arguments):
     parser = argparse.ArgumentParser(description=__doc__, formatter_class=argparse.RawDescriptionHelpFormatter)
     parser.add_argument("--seed", type=int, default=1, help="the first file's seed (1)")
-    parser.add_argument("--count", type=int, default=2000, help="the number of files (2000)")
+    parser.add_argument("--count", type=int, default=3000, help="the number of files (3000)")
     parser.add_argument("--jobs", type=int, default=os.cpu_count(), help="workers (the number of processors)")
     parser.add_argument("--enough", type=int, help="stop when so many files tell a reading apart (run all)")
     parser.add_argument("--table", action="store_true", help="print a table for a document")

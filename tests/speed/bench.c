@@ -1,4 +1,4 @@
-/* The bench program of document 01 in C, to be timed beside the proved one. It prints the same bytes for every file. */
+/* The bench program of documents 01 and 02 in C, to be timed beside the proved one. It prints the same bytes for every file. */
 #include <stddef.h>
 #include <stdint.h>
 #include <string.h>
@@ -11,13 +11,11 @@ enum {
     MOST_HOLDING = 9999,
     MOST_TABLE = MOST_COILS + MOST_DISCRETES + MOST_INPUTS + MOST_HOLDING,
     MOST_BLOCKS = 128,
-    MOST_CONSTANT = 999,
     MOST_SCANS = 1000,
     LONGEST_WHOLE = 100,
-    LONGEST = 255,
-    HEAD = 6,
+    MOST_HEAD = 7,
     RECORD = 15,
-    MOST_FILE = HEAD + RECORD * MOST_BLOCKS + 1 + MOST_TABLE + 2,
+    MOST_FILE = MOST_HEAD + RECORD * MOST_BLOCKS + 1 + MOST_TABLE + 2,
     MOST_WORDS = MOST_FILE + 1, /* one more is enough to know that words are left over */
     TEXT = 65536,
     LINE = 32, /* no line is longer */
@@ -55,25 +53,30 @@ struct sizes {
 };
 
 static struct sizes sizes;
-static uint32_t blocks, table, scans;
+static uint32_t level, head, blocks, table, scans; /* head: the words before the blocks */
 
 /* Classes as bits, so that a row holds a set of them. */
 enum { C0 = 1 << 0, C1 = 1 << 1, C3 = 1 << 3, C4 = 1 << 4, C9 = 1 << 9 };
 
+/* Limits by level, from 1. */
+static const uint16_t most_constant[] = {0, 999, 9600};
+
 struct rule {
-    uint16_t top, middle, most, extra, pointer;
+    uint16_t top, middle, most[3], extra, pointer;
 };
 
-#define LOGIC {C0 | C1 | C3 | C4, C0 | C4, LONGEST_WHOLE, 0, 0}
+#define WHOLE {0, LONGEST_WHOLE, LONGEST_WHOLE}
+#define SINGLE {0, 255, 600}
+#define LOGIC {C0 | C1 | C3 | C4, C0 | C4, WHOLE, 0, 0}
 
 static const struct rule rules[] = {
     [AND] = LOGIC,
     [OR] = LOGIC,
     [XOR] = LOGIC,
     [COMP] = LOGIC,
-    [CMPR] = {C0 | C1 | C3 | C4, C4, LONGEST_WHOLE, 1, 0},
-    [MBIT] = {C3 | C4 | C9, C0 | C4, LONGEST, 0, 1},
-    [SENS] = {C3 | C4 | C9, C0 | C1 | C3 | C4, LONGEST, 0, 1},
+    [CMPR] = {C0 | C1 | C3 | C4, C4, WHOLE, 1, 0},
+    [MBIT] = {C3 | C4 | C9, C0 | C4, SINGLE, 0, 1},
+    [SENS] = {C3 | C4 | C9, C0 | C1 | C3 | C4, SINGLE, 0, 1},
     [BROT] = LOGIC,
 };
 
@@ -112,7 +115,7 @@ static uint32_t before(uint32_t class) {
 
 static uint32_t number_fault(uint32_t class, uint32_t number, uint32_t length) {
     if (class == 9) {
-        return number <= MOST_CONSTANT ? 0 : 6;
+        return number <= most_constant[level] ? 0 : 6;
     }
     if (number == 0) {
         return 6;
@@ -137,7 +140,7 @@ static uint32_t word_fault(const uint16_t *record, uint32_t q, uint32_t earlier)
     const struct rule *rule = q == 0 ? NULL : &rules[record[0]];
     switch (q) {
     case 0: return AND <= w && w <= BROT ? 0 : 4;
-    case 1: return 1 <= w && w <= rule->most ? 0 : 5;
+    case 1: return 1 <= w && w <= rule->most[level] ? 0 : 5;
     case 2: return class_fault(rule->top, w);
     case 3: return number_fault(record[2], w, rule->pointer ? 1 : record[1]);
     case 4: return class_fault(rule->middle, w);
@@ -152,18 +155,23 @@ static uint32_t word_fault(const uint16_t *record, uint32_t q, uint32_t earlier)
     }
 }
 
+/* With count 5 the level stands after the sizes; with count 4 it is left out. */
 static struct verdict check_head(void) {
-    static const struct {
+    static const struct range {
         uint16_t least, most, refusal;
-    } head[HEAD] = {
-        {4, 4, 2}, {0, MOST_COILS, 3}, {0, MOST_DISCRETES, 3}, {0, MOST_INPUTS, 3}, {0, MOST_HOLDING, 3}, {0, MOST_BLOCKS, 2},
+    } ranges[MOST_HEAD] = {
+        {4, 5, 2}, {0, MOST_COILS, 3}, {0, MOST_DISCRETES, 3}, {0, MOST_INPUTS, 3}, {0, MOST_HOLDING, 3}, {1, 2, 3}, {0, MOST_BLOCKS, 2},
     };
-    for (size_t i = 0; i < HEAD; i++) {
+    uint32_t told = count != 0 && words[0] == 5;
+    head = told ? MOST_HEAD : MOST_HEAD - 1;
+    level = told ? words[5] : 1;
+    for (size_t i = 0; i < head; i++) {
+        const struct range *range = &ranges[i < 5 || told ? i : i + 1];
         if (count <= i) {
             return (struct verdict){1, i + 1};
         }
-        if (words[i] < head[i].least || head[i].most < words[i]) {
-            return (struct verdict){head[i].refusal, i + 1};
+        if (words[i] < range->least || range->most < words[i]) {
+            return (struct verdict){range->refusal, i + 1};
         }
     }
     return done;
@@ -171,7 +179,7 @@ static struct verdict check_head(void) {
 
 static struct verdict check_blocks(void) {
     for (uint32_t k = 0; k < blocks; k++) {
-        size_t at = HEAD + RECORD * (size_t)k;
+        size_t at = head + RECORD * (size_t)k;
         for (uint32_t q = 0; q < RECORD; q++) {
             if (count <= at + q) {
                 return (struct verdict){1, at + q + 1};
@@ -465,7 +473,7 @@ static inline uint32_t run_block(const struct block *b) {
 
 static void decode(void) {
     for (uint32_t k = 0; k < blocks; k++) {
-        const uint16_t *w = words + HEAD + RECORD * k;
+        const uint16_t *w = words + head + RECORD * k;
         struct block *b = &records[k];
         uint32_t top = w[2] == 9 ? CONSTANTS + k : before(w[2]) + offset(w[2], w[3]);
         uint32_t middle = before(w[4]) + offset(w[4], w[5]);
@@ -520,11 +528,11 @@ int main(void) {
     struct verdict verdict = check_head();
     if (verdict.number == 0) {
         sizes = (struct sizes){words[1], words[2], words[3], words[4]};
-        blocks = words[5];
+        blocks = words[head - 1];
         table = sizes.coils + sizes.discretes + sizes.inputs + sizes.holding;
         verdict = check_blocks();
     }
-    size_t image = HEAD + RECORD * (size_t)blocks + 1;
+    size_t image = head + RECORD * (size_t)blocks + 1;
     size_t after = image + table;
     if (verdict.number == 0) {
         verdict = check_tail(image, after);

@@ -36,10 +36,11 @@ def record(kind, n, top, middle, inputs, coils=NO_COILS):
     return [kind, n, *top, *middle, *[w for one in inputs for w in one], *coils]
 
 
-def spell(sizes, records, image, scans):
-    """The words of a bench file."""
+def spell(sizes, records, image, scans, level=None):
+    """The words of a bench file, with the level or without it."""
     flat = [w for r in records for w in r]
-    return [4, *sizes, len(records), *flat, len(image), *image, 1, scans]
+    areas = [4, *sizes] if level is None else [5, *sizes, level]
+    return [*areas, len(records), *flat, len(image), *image, 1, scans]
 
 
 def as_bytes(words):
@@ -72,7 +73,7 @@ def one_kind(name, n, blocks, scans, differ=True):
         records.append(record(kind, n, *nodes, inputs))
     source = [65535 if differ else 0] * 512
     holding = [0] * 9999 if name == "cmpr" else [1] * 128 + numbers.words(9999 - 128)
-    return spell((0, 0, 512, 9999), records, source + holding, scans)
+    return spell((0, 0, 512, 9999), records, source + holding, scans, 2 if n > 255 else None)
 
 
 # ---- all kinds together
@@ -122,7 +123,7 @@ def timed():
     """Name and words of each file that is timed."""
     yield "start", spell((0, 0, 0, 2), [record(KINDS["and"], 1, (4, 1), (4, 2), (ALWAYS, NEVER, NEVER))], [3, 5], 1)
     for name in KINDS:
-        for n in (1, 10, 100, 255) if name in LONG else (1, 10, 100):
+        for n in (1, 10, 100, 255, 600) if name in LONG else (1, 10, 100):
             if name == "cmpr":
                 yield f"cmpr-{n}-dense", one_kind(name, n, 128, 1000)
                 yield f"cmpr-{n}-none", one_kind(name, n, 128, 1000, differ=False)
@@ -146,7 +147,7 @@ def small(numbers):
         n = 1 + numbers.below(sizes[3] - 1)
         records.append(some_record(numbers, sizes, 1 + numbers.below(8), n, k, 16 * n + 3))
     image = [numbers.among((0, 1, 2, 15, 16, 17, 32, 33, 65535, numbers.below(65536))) for _ in range(sum(sizes))]
-    return spell(sizes, records, image, 1 + numbers.below(40))
+    return spell(sizes, records, image, 1 + numbers.below(40), numbers.among((None, None, 1, 2)))
 
 
 def spoiled(numbers, words):
@@ -154,7 +155,8 @@ def spoiled(numbers, words):
     words = list(words)
     change = numbers.below(8)
     if change < 5:
-        front = min(len(words), 6 + 15 * words[5])
+        head = words[0] + 2
+        front = min(len(words), head + 15 * words[head - 1])
         i = numbers.below(front) if numbers.below(3) else numbers.below(len(words))
         words[i] = numbers.among((0, 1, 2, 3, 4, 5, 8, 9, 16, 17, 100, 101, 255, 256, 999, 1000, 1001, 65535, (words[i] + 1) % 65536))
     data = as_bytes(words)
@@ -168,20 +170,35 @@ def spoiled(numbers, words):
 
 
 def edges():
-    """Both sides of the edges that document 01 names."""
-    for kind, n, top, middle in (
-        (1, 100, (4, 1), (4, 1)),
-        (1, 101, (4, 1), (4, 1)),
-        (7, 255, (9, 1), (4, 1)),
-        (7, 256, (9, 1), (4, 1)),
-        (1, 1, (0, 17), (4, 1)),
-        (1, 1, (0, 16), (4, 1)),
-        (7, 255, (9, 999), (4, 1)),
-        (7, 255, (9, 1000), (4, 1)),
-        (5, 100, (4, 1), (4, 200)),
-        (5, 100, (4, 1), (4, 201)),
-    ):
-        yield spell((2, 2, 2, 300), [record(kind, n, top, middle, (ALWAYS, NEVER, NEVER))], [3] * 306, 2)
+    """Both sides of the edges that documents 01 and 02 name."""
+    at_level = {
+        None: (
+            (1, 100, (4, 1), (4, 1)),
+            (1, 101, (4, 1), (4, 1)),
+            (7, 255, (9, 1), (4, 1)),
+            (7, 256, (9, 1), (4, 1)),
+            (1, 1, (0, 17), (4, 1)),
+            (1, 1, (0, 16), (4, 1)),
+            (7, 255, (9, 999), (4, 1)),
+            (7, 255, (9, 1000), (4, 1)),
+            (5, 100, (4, 1), (4, 200)),
+            (5, 100, (4, 1), (4, 501)),
+        ),
+        1: ((6, 255, (9, 999), (4, 1)), (6, 256, (9, 999), (4, 1)), (6, 255, (9, 1000), (4, 1))),
+        2: (
+            (1, 101, (4, 1), (4, 1)),
+            (5, 101, (4, 1), (4, 200)),
+            (7, 600, (9, 9600), (4, 1)),
+            (6, 600, (9, 9600), (4, 1)),
+            (7, 601, (9, 9600), (4, 1)),
+            (7, 600, (9, 9601), (4, 1)),
+        ),
+        0: ((1, 1, (4, 1), (4, 1)),),
+        3: ((1, 1, (4, 1), (4, 1)),),
+    }
+    for level, blocks in at_level.items():
+        for kind, n, top, middle in blocks:
+            yield spell((2, 2, 2, 601), [record(kind, n, top, middle, (ALWAYS, NEVER, NEVER))], [3] * 607, 2, level)
 
 
 def compared(count=400):
