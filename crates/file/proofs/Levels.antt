@@ -73,19 +73,19 @@ over-later last size odd l =
     go false = refl
 
 -- ---- the sections after the areas, which are the same
-module _ (c d i h : ℕ) (rest : List ℕ) where
+module _ (coils discretes inputs holding : ℕ) (rest : List ℕ) where
   abbrev short : List ℕ
-  short = 4 ∷ c ∷ d ∷ i ∷ h ∷ rest
+  short = 4 ∷ coils ∷ discretes ∷ inputs ∷ holding ∷ rest
 
   abbrev long : List ℕ
-  long = 5 ∷ c ∷ d ∷ i ∷ h ∷ 1 ∷ rest
+  long = 5 ∷ coils ∷ discretes ∷ inputs ∷ holding ∷ 1 ∷ rest
 
   -- what the count and the sizes earn, and what follows
   abbrev sized : List ℕ
   sized = section-earns areas-section (sizes-in 4 []) short
 
   begun : File
-  begun = record { network = areas-only (sizes-in 4 (c ∷ d ∷ i ∷ h ∷ [])); image = []; run = 0 }
+  begun = record { network = areas-only (sizes-in 4 (coils ∷ discretes ∷ inputs ∷ holding ∷ [])); image = []; run = 0 }
 
   follows : List ℕ
   follows = earned (lifted network-part blocks-section ∷ after-network) begun rest
@@ -154,4 +154,5 @@ module _ (c d i h : ℕ) (rest : List ℕ) where
       grown = length-append sized (0 ∷ follows) ∙ omega (arith, length-append sized follows)
 
 pub level-one : LevelOne
-level-one c d i h rest odd = (same-file c d i h rest, same-refusal c d i h rest odd)
+level-one coils discretes inputs holding rest odd =
+    (same-file coils discretes inputs holding rest, same-refusal coils discretes inputs holding rest odd)

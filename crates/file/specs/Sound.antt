@@ -49,9 +49,9 @@ one-later v = cond (leb (v .place) 5) v (verdict (v .number) (v .place + 1))
 
 abbrev pub LevelOne : Type 0
 LevelOne =
-    (c d i h : ℕ) (rest : Words) (odd : Bool) →
-    let short : Words = 4 ∷ c ∷ d ∷ i ∷ h ∷ rest in
-    let long : Words = 5 ∷ c ∷ d ∷ i ∷ h ∷ 1 ∷ rest in
+    (coils discretes inputs holding : ℕ) (rest : Words) (odd : Bool) →
+    let short : Words = 4 ∷ coils ∷ discretes ∷ inputs ∷ holding ∷ rest in
+    let long : Words = 5 ∷ coils ∷ discretes ∷ inputs ∷ holding ∷ 1 ∷ rest in
     (file-in long ≡ file-in short) × (file-checked long odd ≡ one-later (file-checked short odd))
 
 -- the words of the longest file: areas and blocks, the image's count, the greatest image, the run

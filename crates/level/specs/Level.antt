@@ -1,5 +1,5 @@
 -- The levels of a machine, 1 and 2, and the limits that go by them (document 02, ticket 1). Every limit that a level changes stands
--- here, and nothing else asks for the level. Assumes nothing.
+-- here; no other definition has a case for the level. Assumes nothing.
 use Prim.Native.Nat.{ℕ}
 use mathlib.Core.Bool.{cond}
 use lib.Dec.{eqb}

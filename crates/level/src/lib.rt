@@ -27,6 +27,7 @@ pub const SINGLE_LENGTH: ByLevel = ByLevel {
     two: LONGEST as u16,
 };
 
+// The greatest constant.
 const MOST_CONSTANT: ByLevel = ByLevel {
     one: 999,
     two: 9600,

@@ -15,8 +15,8 @@ ghost use Rattle.record.specs.Record.{record-words};
 ghost use Rattle.network.specs.Network.{areas-only, block-count};
 ghost use Rattle.network.specs.Check.{block-faults, blocks-section, network-in, leading, opened, checked};
 
-// The verdict on a network with what its words spell: the sizes, the count of blocks, and the index after the last block. Only
-// `leading` and `opening` make one.
+// The verdict on a network with what its words spell: the sizes with the level, the count of blocks, and the index after the last
+// block. Only `leading` and `opening` make one.
 pub struct Opened {
     pub(crate) verdict: Verdict,
     pub(crate) sizes: Sizes,
@@ -32,7 +32,7 @@ impl Opened {
         self.verdict
     }
 
-    // The sizes of the areas.
+    // The sizes of the areas, and the level.
     pub fn sizes(self) -> Sizes
         ensures { λ r. ⌜ r ≡ self .sizes ⌝ }
     {

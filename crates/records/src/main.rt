@@ -23,6 +23,32 @@ const BLOCKS: [[u16; 15]; 6] = [
     [1, 1, 4, 5, 4, 8, 1, 0, 0, 0, 0, 0, 0, 0, 0],
 ];
 
+// The words of a network of the same areas at level 2, and the first of these blocks.
+const LEVEL_2: [u16; 22] = [
+    5,
+    1,
+    0,
+    0,
+    8,
+    2,
+    1,
+    5,
+    1,
+    4,
+    1,
+    4,
+    2,
+    1,
+    0,
+    0,
+    0,
+    0,
+    0,
+    0,
+    1,
+    0,
+];
+
 const IMAGE: [u16; 9] = [0, 0x8000, 0, 0x4000, 16, 0, 0x0005, 0, 0];
 
 const BEFORE: Outputs = Outputs {
@@ -101,9 +127,11 @@ fn main() {
     let mut table = IMAGE;
     let written = reader(words)
         && reader(short)
+        && reader(&LEVEL_2)
         && scan_once(b"scan 1:", words, &mut table)
         && scan_once(b"scan 2:", words, &mut table)
         && scan_once(b"scan 3:", words, &mut table)
         && scan_once(b"short words:", short, &mut table)
-        && scan_once(b"six blocks:", &six, &mut table);
+        && scan_once(b"six blocks:", &six, &mut table)
+        && scan_once(b"level 2:", &LEVEL_2, &mut table);
 }

@@ -15,8 +15,8 @@ use Rattle.run.specs.Bench.{file-text, words-text, LevelOnePrints}
 
 pub level-one-prints : LevelOnePrints
 unfolding words-text
-level-one-prints c d i h rest odd e =
-    let short : Words = 4 ∷ c ∷ d ∷ i ∷ h ∷ rest in
-    let same = level-one c d i h rest odd in
+level-one-prints coils discretes inputs holding rest odd e =
+    let short : Words = 4 ∷ coils ∷ discretes ∷ inputs ∷ holding ∷ rest in
+    let same = level-one coils discretes inputs holding rest odd in
     let fine : file-checked short odd ≡ done = accepted-done short odd e in
     ap₂ (λ (f : File) (v : Verdict). cond (eqb (v .number) 0) (file-text f) (refusal-line v)) (same .0) (same .1 ∙ ap one-later fine ∙ sym fine)

@@ -49,7 +49,7 @@ bench-text bytes = words-text (words-in bytes) (odd-byte bytes)
 -- Count 4 means Level 1: words that are accepted without the level print the same with level 1 after their sizes.
 abbrev pub LevelOnePrints : Type 0
 LevelOnePrints =
-    (c d i h : ℕ) (rest : Words) (odd : Bool) →
-    let short : Words = 4 ∷ c ∷ d ∷ i ∷ h ∷ rest in
-    let long : Words = 5 ∷ c ∷ d ∷ i ∷ h ∷ 1 ∷ rest in
+    (coils discretes inputs holding : ℕ) (rest : Words) (odd : Bool) →
+    let short : Words = 4 ∷ coils ∷ discretes ∷ inputs ∷ holding ∷ rest in
+    let long : Words = 5 ∷ coils ∷ discretes ∷ inputs ∷ holding ∷ 1 ∷ rest in
     file-checked short odd .number ≡ 0 → words-text long odd ≡ words-text short odd
