@@ -55,7 +55,6 @@ def share_of(dice, shares):
 
 # A level, and whether it is among the file's words: level 1 may be left out.
 Level = namedtuple("Level", "number told")
-LEFT_OUT = Level(1, False)
 
 
 def level_of(dice, number=None):
@@ -424,14 +423,17 @@ def cases():
     """All faults, mixed; those outside the nodes stand there more than once, as they are few."""
     found = section_cases() + input_cases() * 2
     for kinds in ROWS:
-        found += node_cases(kinds) + [case for level in LEVELS for case in length_cases(kinds, level) + constant_cases(kinds, level)]
+        found += node_cases(kinds)
+        for level in LEVELS:
+            found += length_cases(kinds, level) + constant_cases(kinds, level)
     dice = Dice(0)
     return sorted(found, key=lambda case: dice.random())
 
 
 def section_cases():
     """Faults of the counts, the sizes and the scans, and of words that no kind stands behind."""
-    words = {"areas": [0, 3, 4, 5, 6, 6, 65535], "level": [0, 0, 0, 1, 2, 3, 3, 3, 4, 65535], "run": [0, 0, 2, 2, 2, 65535], "kind": [0, 0, 0, 9, 9, 9, 10, 65535],
+    words = {"areas": [0, 3, 4, 5, 6, 6, 65535], "level": [0, 0, 0, 1, 2, 3, 3, 3, 4, 65535],
+             "run": [0, 0, 2, 2, 2, 65535], "kind": [0, 0, 0, 9, 9, 9, 10, 65535],
              "scans": [0, 0, 0, 0, 1001, 1001, 1001, 1001, 65535],
              "blocks": [128, 129, 129, 129, 65535, lambda at: at.blocks + 1, lambda at: at.blocks - 1],
              "image": [lambda at: at.total + 1, lambda at: at.total - 1] * 3 + [0, 65535]}
@@ -463,7 +465,8 @@ def node_cases(kinds):
     for name, classes in (("top", rule.top_classes), ("middle", rule.middle_classes)):
         refused = [class_ for class_ in (0, 1, 3, 4, 9, 2, 65535) if class_ not in classes]
         found += [Case(name + " class", kinds, None, class_) for class_ in refused] * 2
-        found += [Case(name + " number", kinds, class_, word) for class_ in classes if class_ != CONSTANT for word in bad_numbers(class_)]
+        areas = [class_ for class_ in classes if class_ != CONSTANT]
+        found += [Case(name + " number", kinds, class_, word) for class_ in areas for word in bad_numbers(class_)]
     return found
 
 

@@ -2,7 +2,8 @@
 """Documents 01 and 02 a second time: what the bench must print for a file, told with lists of bits.
 
 Use: `tests/model.py < FILE`, or `answer(data)` on the file's bytes.
-Each function stands under the sentence it says, "02" before those of document 02. `open:` marks a point that the documents leave open.
+Each function stands under the sentence it says, "02" before those of document 02. `open:` marks a point that the
+documents leave open.
 """
 import sys
 from collections import namedtuple
