@@ -2,7 +2,7 @@
 -- Each goes by induction on the number of digits, the last one first. Assumes nothing.
 use mathlib.Core.Path.{_≡_, refl, sym, ap, ap₂, _∙_, subst}
 use mathlib.Core.Bool.{Bool, true, false, cond}
-use mathlib.Core.Logic.{_⊎_, ⊎-elim}
+use mathlib.Core.Logic.{⊎-elim}
 use Prim.Native.Nat.{ℕ, zero, suc, _+_, _-_, _*_, _/_, _%_, _^_, _<_}
 use native.Mathlib.Nat.{pow-suc, sub-self, div-one, le-of-suc-le-suc, not-suc-le-zero, eq-or-lt-of-le, div-div-eq-div-mul, mul-comm, lt-suc-self, le-step, mod-one}
 use native.Mathlib.Omega.{arith}

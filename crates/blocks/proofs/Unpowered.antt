@@ -1,8 +1,8 @@
 -- What a block does without power on top, and that no pointer is written but one that is held. Assumes nothing.
-use mathlib.Core.Path.{_≡_, refl, sym, ap, _∙_}
+use mathlib.Core.Path.{_≡_, refl, ap, _∙_}
 use mathlib.Core.Bool.{Bool, true, false, cond, _&&_}
 use mathlib.Core.List.{[], _∷_}
-use mathlib.Core.Option.{Option, none, some}
+use mathlib.Core.Option.{none, some}
 use Prim.Native.Nat.{ℕ, zero, suc, _*_, _≤_}
 use native.Mathlib.Omega.{arith}
 use lib.Dec.{eqb, leb}
@@ -19,8 +19,8 @@ use Rattle.rules.proofs.KindFacts.{KindFacts, accepted-means}
 use Rattle.blocks.specs.declared.Power.{Power}
 use Rattle.blocks.specs.Kind.{kind-of}
 use Rattle.blocks.specs.View.{View, view}
-use Rattle.blocks.specs.Effect.{Effect, idle, into, logic, zeroed, compare, rotate, modify, at-one, left-at-one, sense, effect-of}
-use Rattle.blocks.specs.Work.{pointer-node, one-word, effect-on}
+use Rattle.blocks.specs.Effect.{Effect, idle, into, logic, compare, rotate, modify, sense, effect-of}
+use Rattle.blocks.specs.Work.{pointer-node, one-word}
 use Rattle.blocks.specs.Truths.{reset-alone, WithoutPower, OnlyHeld}
 use Rattle.blocks.proofs.Places.{writes}
 

@@ -1,6 +1,5 @@
 // A block's pointer: what its node gives, its steps where they are asked for, and its register.
 use bits::LONGEST;
-use pointer::Pointer;
 use record::Node;
 ghost use mathlib.Core.Path.{_≡_};
 ghost use mathlib.Core.Bool.{true, cond};

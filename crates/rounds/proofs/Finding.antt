@@ -3,21 +3,18 @@
 use mathlib.Core.Path.{_≡_, refl, sym, ap, _∙_, subst}
 use mathlib.Core.Bool.{Bool, true, false, cond}
 use mathlib.Core.List.{List}
-use mathlib.Core.Logic.{_↔_}
 use Prim.Native.Nat.{ℕ, _*_, _<_}
 use native.Mathlib.Omega.{arith}
 use lib.Dec.{eqb, ltb}
-use lib.ListN.{length, getD}
+use lib.ListN.{getD}
 use Rattle.pointer.specs.declared.Pointer.{Pointer}
 use Rattle.pointer.specs.Pointer.{sized, reset, in-range}
 use Rattle.pointer.proofs.Pointers.{size-right, steps as sized-steps}
 use Rattle.search.specs.Search.{NoneLater}
 use Rattle.record.specs.declared.Block.{Block}
-use Rattle.table.specs.Table.{total}
 use Rattle.network.specs.Network.{Network, block-of, block-count}
 use Rattle.network.specs.Sound.{GoodNetwork}
 use Rattle.rules.proofs.KindFacts.{Compared, accepted-means}
-use Rattle.blocks.specs.declared.Power.{Power}
 use Rattle.blocks.specs.declared.Outputs.{Outputs}
 use Rattle.blocks.specs.Kind.{kind-of}
 use Rattle.blocks.specs.View.{View, seen, view}

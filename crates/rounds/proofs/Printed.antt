@@ -1,9 +1,9 @@
 -- Demand 3 for what the bench prints: of each scan the text says of a compare block what the scan reports of it. Assumes nothing.
 use mathlib.Core.Path.{_≡_, refl, sym, ap, ap₂, _∙_, subst}
-use mathlib.Core.Bool.{Bool, true, false, cond}
+use mathlib.Core.Bool.{Bool, cond}
 use mathlib.Core.List.{List, [], _∷_, _++_, append-nil}
 use mathlib.Core.Option.{Option, none, some}
-use Prim.Native.Nat.{ℕ, zero, suc, _+_, _-_, _*_, _≤_, _<_}
+use Prim.Native.Nat.{ℕ, zero, suc, _+_, _-_, _≤_, _<_}
 use native.Mathlib.Omega.{arith}
 use borrow.Author.Tests.{eq-eqb}
 use lib.Dec.{eqb}
@@ -21,7 +21,7 @@ use Rattle.scan.specs.Scan.{scanned}
 use Rattle.scan.specs.Scans.{scan-pointers, scans-table}
 use Rattle.scan.proofs.Repeating.{scans-exact}
 use Rattle.lines.specs.Text.{decimal, pointer-field, refusal-line}
-use Rattle.run.specs.Bench.{scan-lines, scans-lines, file-text, words-text, bench-text}
+use Rattle.run.specs.Bench.{scan-lines, scans-lines, file-text, words-text}
 use Rattle.rounds.specs.Demand3.{report, register-in, done-by, Steady, Scanning, in-turn, round-at, RoundAt}
 use Rattle.rounds.specs.Bench.{number-in, text-says, Demand3Bench}
 use Rattle.rounds.proofs.Called.{as-read}

@@ -2,29 +2,28 @@
 -- does, and the run begins on the image. Assumes nothing.
 use mathlib.Core.Path.{_≡_, refl, sym, ap, ap₂, _∙_, subst}
 use mathlib.Core.Bool.{Bool, true, false, cond}
-use mathlib.Core.List.{List, [], _++_}
+use mathlib.Core.List.{List, _++_}
 use Prim.Native.Nat.{ℕ, _+_, _≤_}
 use native.Mathlib.Omega.{arith}
-use borrow.Author.Tests.{le-leb, eq-eqb, ne-eqb, eqb-true, eqb-false}
+use borrow.Author.Tests.{le-leb, eq-eqb, ne-eqb, eqb-true}
 use lib.Dec.{leb, eqb}
 use lib.ListN.{length, take, drop}
 use lib.Seq.{take-at, take-append-seam}
 use Rattle.verdict.specs.declared.Verdict.{Verdict}
 use Rattle.verdict.specs.Promise.{Leaves}
-use Rattle.verdict.specs.Verdict.{verdict, done, then}
+use Rattle.verdict.specs.Verdict.{verdict, done}
 use Rattle.words.specs.declared.Converted.{Converted}
 use Rattle.words.specs.Words.{words-count, words-in, odd-byte, converted, to-words, filled}
 use Rattle.words.proofs.Filling.{words-length}
 use Rattle.file.specs.declared.checker.OpenedFile.{OpenedFile}
-use Rattle.file.specs.File.{table-words, file-in, file-checked, opened-file-with}
-use Rattle.file.specs.Sound.{SoundFile}
+use Rattle.file.specs.File.{table-words, file-in, file-checked}
 use Rattle.file.specs.Start.{start-verdict, started, start-table}
 use Rattle.file.proofs.Accepted.{accepts-files, accepted-done}
 use Rattle.file.proofs.Longer.{place-low}
 use Rattle.file.proofs.Starts.{image-first}
-use Rattle.lines.specs.Text.{longest-line, refusal-line, place-after, laid}
-use Rattle.run.specs.Bench.{file-text, words-text, bench-text}
-use Rattle.run.specs.Calls.{Pages, most-table, Printed, Begins, CallsPrint}
+use Rattle.lines.specs.Text.{longest-line, refusal-line}
+use Rattle.run.specs.Bench.{file-text, words-text}
+use Rattle.run.specs.Calls.{Pages, most-table, Printed, CallsPrint}
 use Rattle.run.specs.Calls.Printed.{refused, ran}
 use Rattle.run.proofs.Paging.{pages-are-printed}
 

@@ -1,13 +1,13 @@
 -- The calls one after the other: what is still to be printed from a scan on is what a call puts and what is then still to be printed; and
 -- a call that has room goes on. Assumes nothing.
 use mathlib.Core.Path.{_≡_, refl, sym, ap, ap₂, _∙_, subst}
-use mathlib.Core.Bool.{Bool, true, false, cond, _&&_, false≢true}
+use mathlib.Core.Bool.{Bool, true, false, cond, _&&_}
 use mathlib.Core.List.{List, [], _++_, append-assoc, append-nil}
 use Prim.Native.Nat.{ℕ, _+_, _-_, _*_, _/_, _≤_, _<_}
 use native.Mathlib.Decide.{decLt, ℕ-discrete}
 use native.Mathlib.Nat.{le-div-iff-mul-le}
 use native.Mathlib.Omega.{arith}
-use borrow.Author.Tests.{lt-ltb, le-ltb, le-leb, lt-leb, leb-true, eq-eqb, ne-eqb, eqb-true, eqb-false}
+use borrow.Author.Tests.{lt-ltb, le-ltb, le-leb, lt-leb, leb-true, eq-eqb, ne-eqb, eqb-true}
 use lib.Dec.{leb, eqb}
 use lib.ListN.{length, take, drop, length-append, length-drop}
 use lib.Seq.{take-append-seam}
@@ -20,7 +20,7 @@ use Rattle.file.specs.File.{File, table-words, file-in, file-checked}
 use Rattle.file.specs.Sound.{SoundFile}
 use Rattle.file.proofs.Accepted.{accepts-files}
 use Rattle.scan.specs.Scans.{scans-table}
-use Rattle.lines.specs.Text.{head-line, end-line, first-line, last-line, longest-line}
+use Rattle.lines.specs.Text.{head-line, end-line, first-line, longest-line}
 use Rattle.run.specs.declared.Went.{Went}
 use Rattle.run.specs.Bench.{scans-lines, file-text}
 use Rattle.run.specs.Page.{most-at-once, ends, most-lines, at-once, many, page, run-verdict, run-lines, went, run-went, run-table, run-text}

@@ -11,7 +11,6 @@ mod repeat;
 
 use crate::block::run;
 use blocks::Located;
-use blocks::Outputs;
 use network::MOST_BLOCKS;
 pub use repeat::scans;
 use table::Sizes;

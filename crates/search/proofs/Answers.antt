@@ -10,7 +10,7 @@ use borrow.Author.Tests.{eqb-true}
 use lib.Dec.{eqb}
 use lib.ListN.{length}
 use Rattle.verdict.specs.Verdict.{placeless}
-use Rattle.verdict.specs.Said.{Said, said-by}
+use Rattle.verdict.specs.Said.{Said}
 use Rattle.runs.specs.Run.{run, unless}
 use Rattle.search.specs.declared.Difference.{Difference}
 use Rattle.search.specs.declared.Difference.the-variants.{At, Nothing, Refused}

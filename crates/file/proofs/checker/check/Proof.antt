@@ -2,7 +2,7 @@
 use borrow.Author.Needs.{needs}
 use native.Mathlib.Omega.{arith}
 use mathlib.Core.Path.{_≡_, sym, ap, _∙_}
-use Prim.Native.Nat.{_≤_, _<_}
+use Prim.Native.Nat.{_≤_}
 use denote.Ref.{now}
 use Rattle.network.specs.declared.checker.Opened.{Opened}
 use Rattle.table.specs.Table.{total}
