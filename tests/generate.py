@@ -235,7 +235,7 @@ def node_at(plan, n, class_, word):
 def pointer_for(dice, n):
     """A pointer's value: at each edge of a matrix of n words, within it, over it."""
     size = 16 * n
-    return dice.pick([0, 1, size - 1, size, size, size + 1, 999, 9600, 65535, dice.below(65536),
+    return dice.pick([0, 0, 1, size - 1, size, size, size + 1, 999, 9600, 65535, dice.below(65536),
                       dice.between(1, size), dice.between(1, size), dice.between(1, size)])
 
 

@@ -502,33 +502,28 @@ def brot_enters(read, left):
     return 0
 
 
-# "MBIT: the bit at the pointer becomes 1 with power on middle, else 0."
-# "over 16n nothing is done, the pointer stays, middle is off and bottom on"
-# "0 touches no bit, middle and bottom off; from 1 to 16n bottom is off"
+# "over 16n nothing is done, the pointer stays, ... and bottom on" "0 touches no bit, ... bottom off; from 1 to 16n bottom is off"
+# 02: "with power on top, MBIT's middle output equals its middle input, for pointer 0 and over 16n too"
 def mbit_block(read):
     if not read.top:
         return NOTHING
     if read.pointer > read.size:
-        return Work(0, 1, None, None)
+        return Work(read.middle, 1, None, None)
     increased = increase(read.pointer, read) if read.bottom and read.moves else None
     if read.pointer == 0:
-        return Work(0, 0, None, increased)
-    return Work(mbit_middle(read), 0, mbit_matrix(read), increased)
+        return Work(read.middle, 0, None, increased)
+    return Work(read.middle, 0, mbit_matrix(read), increased)
 
 
-# "Middle output is on exactly when a bit was set to 1."
-# open: a bit that was 1 before and is set to 1 again; it counts as set
-def mbit_middle(read):
-    return read.middle
-
-
+# "MBIT: the bit at the pointer becomes 1 with power on middle, else 0."
 def mbit_matrix(read):
     matrix = list(read.second)
     matrix[read.pointer - 1] = read.middle
     return matrix
 
 
-# "SENS: the middle output is the bit at the pointer"; the same sentences on the pointer's range as for MBIT
+# "SENS: the middle output is the bit at the pointer"
+# "over 16n nothing is done, the pointer stays, middle is off and bottom on"; "0 touches no bit, middle and bottom off"
 def sens_block(read):
     reset = sens_reset(read)
     if not read.top:

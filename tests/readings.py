@@ -480,41 +480,46 @@ reading("CMPR from 0", "positions count from 0", "    return Work(1, read.source
 # -------------------------------------------------------------------------------------------------
 part("MBIT")
 
+MBIT_OFF = "        return NOTHING\n    if read.pointer > read.size"
+MBIT_OVER = "        return Work(read.middle, 1, None, None)"
+MBIT_0 = "        return Work(read.middle, 0, None, increased)"
+MBIT_DONE = "    return Work(read.middle, 0, mbit_matrix(read), increased)"
 reading("MBIT sense", "power on middle clears the bit", "matrix[read.pointer - 1] = read.middle", "matrix[read.pointer - 1] = 1 - read.middle")
 reading("MBIT never clears", "without power on middle the bit stays",
         "matrix[read.pointer - 1] = read.middle", "matrix[read.pointer - 1] |= read.middle")
 reading("MBIT next bit", "the bit after the pointer is set",
         "matrix[read.pointer - 1] = read.middle", "matrix[read.pointer % read.size] = read.middle")
-reading("MBIT middle changed", "middle is on only when the bit was 0 before", "    return read.middle\n", "    return read.middle & (1 - read.second[read.pointer - 1])\n")
-reading("MBIT middle bit before", "the middle output is the bit as it was", "    return read.middle\n", "    return read.second[read.pointer - 1]\n")
-reading("MBIT middle done", "middle is on when a bit was written", "    return read.middle\n", "    return 1\n")
-reading("MBIT middle over", "middle copies the middle input over 16n too (002's summary)", "        return Work(0, 1, None, None)\n    increased", "        return Work(read.middle, 1, None, None)\n    increased")
-reading("MBIT middle at 0", "middle copies the middle input at pointer 0 too (002's summary)", "        return Work(0, 0, None, increased)", "        return Work(read.middle, 0, None, increased)")
+reading("MBIT middle changed", "middle is on only when the bit was 0 before",
+        MBIT_DONE, MBIT_DONE.replace("read.middle", "read.middle & (1 - read.second[read.pointer - 1])"))
+reading("MBIT middle bit before", "the middle output is the bit as it was", MBIT_DONE, MBIT_DONE.replace("read.middle", "read.second[read.pointer - 1]"))
+reading("MBIT middle done", "middle is on when a bit was written", MBIT_DONE, MBIT_DONE.replace("read.middle", "1"))
+reading("MBIT middle over off", "middle is off over 16n (document 01)", MBIT_OVER, MBIT_OVER.replace("read.middle", "0"))
+reading("MBIT middle over on", "middle is on over 16n whatever the input", MBIT_OVER, MBIT_OVER.replace("read.middle", "1"))
+reading("MBIT middle at 0 off", "middle is off at pointer 0 (document 01)", MBIT_0, MBIT_0.replace("read.middle", "0"))
+reading("MBIT middle at 0 on", "middle is on at pointer 0 whatever the input", MBIT_0, MBIT_0.replace("read.middle", "1"))
 reading("MBIT middle unpowered", "middle copies the middle input without power",
-        "        return NOTHING\n    if read.pointer > read.size", "        return Work(read.middle, 0, None, None)\n    if read.pointer > read.size")
+        MBIT_OFF, MBIT_OFF.replace("NOTHING", "Work(read.middle, 0, None, None)"))
 reading("MBIT bottom unpowered", "bottom shows a pointer over 16n without power",
-        "        return NOTHING\n    if read.pointer > read.size", "        return Work(0, int(read.pointer > read.size), None, None)\n    if read.pointer > read.size")
-reading("MBIT unpowered", "MBIT works without power", "        return NOTHING\n    if read.pointer > read.size", "        pass\n    if read.pointer > read.size")
-reading("MBIT over off", "bottom is off over 16n", "        return Work(0, 1, None, None)\n    increased", "        return Work(0, 0, None, None)\n    increased")
+        MBIT_OFF, MBIT_OFF.replace("NOTHING", "Work(0, int(read.pointer > read.size), None, None)"))
+reading("MBIT unpowered", "MBIT works without power", MBIT_OFF, MBIT_OFF.replace("return NOTHING", "pass"))
+reading("MBIT over off", "bottom is off over 16n", MBIT_OVER, MBIT_OVER.replace("1, None", "0, None"))
 reading("MBIT over at 16n", "16n counts as over", "    if read.pointer > read.size:\n", "    if read.pointer >= read.size:\n")
 reading("MBIT over set", "over 16n the pointer is set to 16n (002's other sentence)",
-        "        return Work(0, 1, None, None)\n    increased", "        return Work(0, 1, None, read.size if read.moves else None)\n    increased")
+        MBIT_OVER, MBIT_OVER.replace("None)", "read.size if read.moves else None)"))
 reading("MBIT over to 1", "over 16n the pointer is increased to 1",
-        "        return Work(0, 1, None, None)\n    increased", "        return Work(0, 1, None, 1 if read.moves and read.bottom else None)\n    increased")
+        MBIT_OVER, MBIT_OVER.replace("None)", "1 if read.moves and read.bottom else None)"))
 reading("MBIT over increases", "over 16n the pointer is increased all the same",
-        "        return Work(0, 1, None, None)\n    increased", "        return Work(0, 1, None, (read.pointer + 1) % 65536 if read.moves and read.bottom else None)\n    increased")
-reading("MBIT 0 over", "bottom is on at pointer 0", "        return Work(0, 0, None, increased)", "        return Work(0, 1, None, increased)")
-reading("MBIT 0 stays", "a pointer of 0 is not increased", "        return Work(0, 0, None, increased)", "        return NOTHING")
-reading("MBIT 0 is 1", "a pointer of 0 touches bit 1", "    if read.pointer == 0:\n        return Work(0, 0, None, increased)\n",
-        "    if read.pointer == 0:\n        return Work(read.middle, 0, [read.middle] + read.second[1:], increased)\n")
-reading("MBIT 0 is 16n", "a pointer of 0 touches the last bit", "    if read.pointer == 0:\n        return Work(0, 0, None, increased)\n",
-        "    if read.pointer == 0:\n        return Work(read.middle, 0, read.second[:-1] + [read.middle], increased)\n")
+        MBIT_OVER, MBIT_OVER.replace("None)", "(read.pointer + 1) % 65536 if read.moves and read.bottom else None)"))
+reading("MBIT 0 over", "bottom is on at pointer 0", MBIT_0, MBIT_0.replace("0, None", "1, None"))
+reading("MBIT 0 stays", "a pointer of 0 is not increased", MBIT_0, MBIT_0.replace("increased", "None"))
+reading("MBIT 0 is 1", "a pointer of 0 touches bit 1", MBIT_0, MBIT_0.replace("None", "[read.middle] + read.second[1:]"))
+reading("MBIT 0 is 16n", "a pointer of 0 touches the last bit", MBIT_0, MBIT_0.replace("None", "read.second[:-1] + [read.middle]"))
 reading("MBIT increase first", "the increase comes before the work",
-        "    if read.pointer == 0:\n        return Work(0, 0, None, increased)\n",
-        "    if increased is not None:\n        read = read._replace(pointer=increased)\n    if read.pointer == 0:\n        return Work(0, 0, None, increased)\n")
+        "    if read.pointer == 0:\n" + MBIT_0,
+        "    if increased is not None:\n        read = read._replace(pointer=increased)\n    if read.pointer == 0:\n" + MBIT_0)
 reading("MBIT increase unpowered", "the increase needs no power on top",
-        "        return NOTHING\n    if read.pointer > read.size",
-        "        return Work(0, 0, None, increase(read.pointer, read) if read.bottom and read.moves and read.pointer <= read.size else None)\n    if read.pointer > read.size")
+        MBIT_OFF,
+        MBIT_OFF.replace("NOTHING", "Work(0, 0, None, increase(read.pointer, read) if read.bottom and read.moves and read.pointer <= read.size else None)"))
 reading("MBIT always increases", "the increase needs no power on bottom", "if read.bottom and read.moves else None\n    if read.pointer == 0", "if read.moves else None\n    if read.pointer == 0")
 reading("MBIT by middle", "the middle input increases", "if read.bottom and read.moves else None\n    if read.pointer == 0", "if read.middle and read.moves else None\n    if read.pointer == 0")
 reading("MBIT writes pointer", "the pointer is written back when it is not increased",
@@ -533,6 +538,9 @@ SENS_END = "increase(pointer, read) if read.middle and read.moves else reset)"
 SENS_OFF = "        return Work(0, 0, None, reset)\n    pointer = "
 SENS_RESET = "    if read.bottom and read.moves:\n        return 1\n"
 reading("SENS copies input", "middle copies the middle input (002's summary table)", "return Work(sensed, 0, None, increase", "return Work(read.middle, 0, None, increase")
+reading("SENS middle over", "middle copies the middle input over 16n, as MBIT's does (02)", SENS_OVER, SENS_OVER.replace("Work(0", "Work(read.middle"))
+reading("SENS middle at 0", "middle copies the middle input at pointer 0, as MBIT's does (02)",
+        "sensed = 0 if pointer == 0", "sensed = read.middle if pointer == 0")
 reading("SENS opposite", "middle is the opposite of the bit", "return Work(sensed, 0, None, increase", "return Work(1 - sensed if pointer else 0, 0, None, increase")
 reading("SENS next bit", "the bit after the pointer is sensed", "read.second[pointer - 1]\n", "read.second[pointer % read.size]\n")
 reading("SENS 0 is 1", "a pointer of 0 senses bit 1", "sensed = 0 if pointer == 0 else read.second[pointer - 1]", "sensed = read.second[max(pointer, 1) - 1]")

@@ -426,9 +426,9 @@ static inline uint32_t run_block(const struct block *b) {
     case MBIT:
         if (top) {
             uint32_t at = state[p];
+            shown = middle;
             last = size < at;
             if (!last) {
-                shown = middle && at != 0;
                 if (at != 0) {
                     put_bit(d + (at - 1) / 16, mask_of(at - 1), middle);
                 }

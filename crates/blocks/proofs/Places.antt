@@ -1,7 +1,7 @@
 -- What a block of an accepted network writes, by its kind: a destination and a pointer, where each of them lies and how long it is.
 -- This is the one place where the kinds are gone through; what a block leaves alone follows from it. Assumes nothing.
 use mathlib.Core.Path.{_≡_, refl, sym, ap, _∙_, subst}
-use mathlib.Core.Bool.{Bool, true, false, not, cond, _&&_}
+use mathlib.Core.Bool.{Bool, true, false, cond, _&&_}
 use mathlib.Core.List.{List, [], _∷_}
 use mathlib.Core.Logic.{_⊎_, inl, inr, ⊎-elim}
 use mathlib.Core.Option.{Option, none, some}
@@ -102,8 +102,8 @@ module _ {D : Type 0} {P : List ℕ → Type 0} (n : ℕ) (v : View) (on : Power
         new = held-word held (on .bottom) _ none h nothing
 
         go : (over : Bool) → ltb (16 * n) (v .pointer) ≡ over → (none-there : Bool) → eqb (v .pointer) 0 ≡ none-there
-            → Writes D P n (cond over (effect stays none false true)
-            (effect (cond none-there stays (puts (v .pointer) (on .middle))) (increased (held && on .bottom) none (into n (v .pointer))) (on .middle && not none-there) false))
+            → Writes D P n (cond over (effect stays none (on .middle) true)
+            (effect (cond none-there stays (puts (v .pointer) (on .middle))) (increased (held && on .bottom) none (into n (v .pointer))) (on .middle) false))
         go true e z f = made n stays tt nothing
         go false e true f = made n stays tt new
         go false e false f =

@@ -1,7 +1,7 @@
 -- What a block is to write, and its two lower outputs, by its kind's rule (document 01, "One scan"): from what it has read and
 -- the power on its inputs. Assumes nothing.
 use Prim.Native.Nat.{ℕ, _*_}
-use mathlib.Core.Bool.{Bool, true, false, not, cond, _&&_}
+use mathlib.Core.Bool.{Bool, true, false, cond, _&&_}
 use mathlib.Core.Option.{Option, none, some}
 use lib.Dec.{eqb, ltb}
 use Rattle.verdict.specs.Lists.{Matrix}
@@ -82,17 +82,18 @@ abbrev pub increased : Bool → Option ℕ → Pointer → Option ℕ
 increased on left p = cond on (some (advanced p .at)) left
 
 -- MBIT: the bit at the pointer becomes 1 with power on middle, else 0; power on bottom is increase. A pointer of 0 touches no
--- bit. Only a held pointer, one in class 4, is increased.
+-- bit. Only a held pointer, one in class 4, is increased. With power on top the middle output equals the middle input, for pointer 0
+-- and over 16n too (document 02, ticket 2).
 unfoldable pub modify : Bool → ℕ → View → Power → Effect
 unfolding advanced
 modify held n v on =
     cond (on .top)
     (cond (ltb (16 * n) (v .pointer))
-    (effect stays none false true)
+    (effect stays none (on .middle) true)
     (effect
     (cond (eqb (v .pointer) 0) stays (puts (v .pointer) (on .middle)))
     (increased (held && on .bottom) none (into n (v .pointer)))
-    (on .middle && not (eqb (v .pointer) 0))
+    (on .middle)
     false))
     (idle none)
 

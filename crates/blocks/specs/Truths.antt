@@ -1,5 +1,6 @@
 -- What is true of a block of an accepted network (document 01, "One scan"): which bits it writes, that it changes nothing else
--- and no input, that MBIT touches one bit, the key rule, and when a compare reports none. Assumes nothing.
+-- and no input, that MBIT touches one bit and what its middle output and its lamp show (document 02, ticket 2), the key rule, and when a
+-- compare reports none. Assumes nothing.
 use Prim.Native.Nat.{ℕ, _+_, _-_, _*_, _≤_, _<_}
 use mathlib.Core.Path.{_≡_}
 use mathlib.Core.Logic.{_↔_, _⊎_}
@@ -102,6 +103,17 @@ ModifiesOneBit =
     let at = pointer-in net (b .top) t in
     bit (block-table net b t on) p
     ≡ cond (on .top && (leb 1 at && leb at (16 * b .n))) (cond (eqb p (16 * first-word net (b .middle) + at)) (on .middle) (bit t p)) (bit t p)
+
+-- MBIT's middle output: with power on top it equals the middle input, whatever the pointer; without power it is off
+abbrev pub MiddleFollows : Type 0
+MiddleFollows =
+    (net : Network) (b : Block) (t : Table) → b .kind ≡ 6 → (on : Power) → block-outputs net b t on .middle ≡ (on .top && on .middle)
+
+-- and the lamp on its middle output, a coil that the bottom output has not too, shows the same
+abbrev pub LampFollows : Type 0
+LampFollows =
+    (net : Network) (earlier : ℕ) (b : Block) (t : Table) → Runs net earlier b t → b .kind ≡ 6 → (on : Power) →
+    let lamp = b .coils .middle in (lamp ≡ 0 → ⊥) → (lamp ≡ b .coils .bottom → ⊥) → bit (block-table net b t on) lamp ≡ (on .top && on .middle)
 
 -- what a reset alone makes of a pointer: CMPR's becomes 0 with power on middle, SENS's, if it is held, 1 with power on bottom
 abbrev pub reset-alone : Kind → Bool → Power → Option ℕ

@@ -1,6 +1,6 @@
 -- The laws of a bit put or read at a pointer, and of the pointer's steps where they are asked for. Assumes nothing.
 use mathlib.Core.Path.{_≡_, refl, sym, ap, ap₂, _∙_}
-use mathlib.Core.Bool.{Bool, true, false, not, cond, _&&_, _||_}
+use mathlib.Core.Bool.{Bool, true, false, cond, _&&_, _||_}
 use mathlib.Core.List.{List}
 use mathlib.Core.Option.{Option, none, some}
 use Prim.Native.Nat.{ℕ, _*_, _≤_, _<_}
@@ -18,7 +18,7 @@ use Rattle.blocks.specs.Effect.Change.{stays, puts}
 use Rattle.blocks.specs.Work.{matrix-put, change-put, one-word, shows}
 use Rattle.pointed.specs.Call.{modified-at, sensed-at}
 use Rattle.pointed.specs.Inner.{put-at}
-use Rattle.blocks.proofs.Doing.{Did, by-effect, idle-does}
+use Rattle.blocks.proofs.Doing.{Did, by-effect}
 
 -- what is asked of a pointer is asked of one that is held
 pub and-held : (held a : Bool) {asked : Bool} → asked ≡ (held && a) → asked ≡ true → held ≡ true
@@ -42,32 +42,43 @@ module _ (held : Bool) (at : ℕ) (t : List ℕ) (d p n : ℕ) (on : Power) wher
   modified : Bool → Bool → Effect
   modified power over =
       cond power
-      (cond over (effect stays none false true)
-      (effect marked (increased (held && on .bottom) none (into n at)) (on .middle && not (eqb at 0)) false))
+      (cond over (effect stays none (on .middle) true) (effect marked (increased (held && on .bottom) none (into n at)) (on .middle) false))
       (idle none)
 
-  pub modify-off : on .top ≡ false → Did on (modified-at held at t d n on) d n p t (shows (on .top) false false) t
-  unfolding modify modified marked
-  modify-off e = by-effect on d n p t (shows (on .top) false false) t (ap (λ (a : Bool). modified a (ltb (16 * n) at)) e) (idle-does on d n p t)
+  -- the middle output shows the middle input, with power on top
+  module _ {lit : Bool} (m : lit ≡ (on .top && on .middle)) where
+    lit-by : {power : Bool} → on .top ≡ power → lit ≡ (power && on .middle)
+    lit-by e = m ∙ ap (λ (a : Bool). a && on .middle) e
 
-  pub modify-over : on .top ≡ true → 16 * n < at → Did on (modified-at held at t d n on) d n p t (shows (on .top) false true) t
-  unfolding modify modified marked matrix-put change-put
-  modify-over e l =
-      by-effect on d n p t (shows (on .top) false true) t (ap₂ modified e (lt-ltb (16 * n) at l)) (record { answers = refl; leaves = refl })
+    pub modify-off : on .top ≡ false → Did on (modified-at held at t d n on) d n p t (shows (on .top) lit false) t
+    unfolding modify modified marked matrix-put change-put
+    modify-off e =
+        by-effect on d n p t (shows (on .top) lit false) t (ap (λ (a : Bool). modified a (ltb (16 * n) at)) e) (record {
+          answers = ap (λ (a : Bool). shows (on .top) a false) (lit-by e);
+          leaves = refl;
+        })
 
-  pub modify-on : on .top ≡ true → at ≤ 16 * n → {asked : Bool} → asked ≡ (held && on .bottom) → {w : ℕ} → w ≡ next-of asked (into n at)
-      → {there table : List ℕ} → there ≡ put-at t d n at (on .middle) → table ≡ matrix-put p (one-word (cond asked (some w) none)) there
-      → {middle : Bool} → middle ≡ (on .middle && not (eqb at 0)) → Did on (modified-at held at t d n on) d n p t (shows (on .top) middle false) table
-  unfolding modify modified marked
-  modify-on e l {asked} r {w} q {there} {table} h k {middle} m =
-      by-effect on d n p t (shows (on .top) middle false) table (ap₂ modified e (le-ltb (16 * n) at l)) (record {
-        answers = ap (λ (a : Bool). shows (on .top) a false) m;
-        leaves =
-            k
-            ∙ (λ i. matrix-put p (one-word (cond asked (some (q i)) none)) (h i))
-            ∙ (λ i. matrix-put p (one-word (where-asked asked (advanced (into n at) .at) at i)) (put-at t d n at (on .middle)))
-            ∙ (λ i. matrix-put p (one-word (increased (r i) none (into n at))) (put-at t d n at (on .middle)));
-      })
+    pub modify-over : on .top ≡ true → 16 * n < at → Did on (modified-at held at t d n on) d n p t (shows (on .top) lit true) t
+    unfolding modify modified marked matrix-put change-put
+    modify-over e l =
+        by-effect on d n p t (shows (on .top) lit true) t (ap₂ modified e (lt-ltb (16 * n) at l)) (record {
+          answers = ap (λ (a : Bool). shows (on .top) a true) (lit-by e);
+          leaves = refl;
+        })
+
+    pub modify-on : on .top ≡ true → at ≤ 16 * n → {asked : Bool} → asked ≡ (held && on .bottom) → {w : ℕ} → w ≡ next-of asked (into n at)
+        → {there table : List ℕ} → there ≡ put-at t d n at (on .middle) → table ≡ matrix-put p (one-word (cond asked (some w) none)) there
+        → Did on (modified-at held at t d n on) d n p t (shows (on .top) lit false) table
+    unfolding modify modified marked
+    modify-on e l {asked} r {w} q {there} {table} h k =
+        by-effect on d n p t (shows (on .top) lit false) table (ap₂ modified e (le-ltb (16 * n) at l)) (record {
+          answers = ap (λ (a : Bool). shows (on .top) a false) (lit-by e);
+          leaves =
+              k
+              ∙ (λ i. matrix-put p (one-word (cond asked (some (q i)) none)) (h i))
+              ∙ (λ i. matrix-put p (one-word (where-asked asked (advanced (into n at) .at) at i)) (put-at t d n at (on .middle)))
+              ∙ (λ i. matrix-put p (one-word (increased (r i) none (into n at))) (put-at t d n at (on .middle)));
+        })
 
 -- ---- SENS
 

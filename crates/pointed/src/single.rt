@@ -60,16 +60,17 @@ pub fn modify(table: &mut [u16], node: Node, p: usize, d: usize, n: usize, on: P
     let held = node.class == 4;
     let at = pointer_in(table, node, p);
     let size = (16 * n) as u16;
+    let lit = both(on.top, on.middle);
     if !on.top {
-        return finished(on.top, false, false);
+        return finished(on.top, lit, false);
     }
     if size < at {
-        return finished(on.top, false, true);
+        return finished(on.top, lit, true);
     }
     put_at(table, d, n, at, on.middle);
     let increase = both(held, on.bottom);
     put_pointer(table, p, increase, next(increase, Pointer { at, size }));
-    finished(on.top, both(on.middle, at != 0), false)
+    finished(on.top, lit, false)
 }
 
 // The bit at a pointer of the n words from s on. A node gives the pointer, whose register stands at p.

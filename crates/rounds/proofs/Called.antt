@@ -55,13 +55,14 @@ module _ (ws : List ℕ) (i m : ℕ) (lent left : ℕ → List ℕ) (lists recor
   taken : (j : ℕ) → j < m → scan-verdict ws (length (lent j)) (length (lists j)) .number ≡ 0
   taken j l = sym (ap (λ (v : Verdict). v .number) (K .kept j l .answers)) ∙ K .done j l
 
+  -- the block's entry is its output among the scan's
+  pub records-show : i < block-count (network-in ws) → (j : ℕ) → j < m → getD (records j) i no-outputs ≡ getD (scanned (network-in ws) (lent j) .outs) i no-outputs
+  records-show there j l =
+      ap (λ (list : List Outputs). getD list i no-outputs) (K .kept j l .leaves-records ∙ done-records ws (lent j) (lists j) (taken j l))
+      ∙ List·getD-append (scanned (network-in ws) (lent j) .outs) (drop (block-count (network-in ws)) (lists j)) no-outputs i (omega (arith, all-outs-count (network-in ws) (lent j)))
+
   reads : i < block-count (network-in ws) → PointerKept (network-in ws) i m lent left → (j : ℕ) → j < m → reading (network-in ws) i (left j) (records j) ≡ report (network-in ws) i (lent j)
-  reads there kept j l =
-      let outs : List Outputs = scanned (network-in ws) (lent j) .outs in
-      ap₂ (λ (p : Outputs) (x : ℕ). cond (p .middle) (some x) none)
-      (ap (λ (list : List Outputs). getD list i no-outputs) (K .kept j l .leaves-records ∙ done-records ws (lent j) (lists j) (taken j l))
-      ∙ List·getD-append outs (drop (block-count (network-in ws)) (lists j)) no-outputs i (omega (arith, all-outs-count (network-in ws) (lent j))))
-      (kept j l)
+  reads there kept j l = ap₂ (λ (p : Outputs) (x : ℕ). cond (p .middle) (some x) none) (records-show there j l) (kept j l)
 
 pub demand-3-records : Demand3Records
 demand-3-records ws i m lent left lists records answers K S kept j l =
@@ -74,18 +75,20 @@ module _ (ws : List ℕ) (i m : ℕ) (lent left : ℕ → List ℕ) (lists numbe
   numbers-taken : (j : ℕ) → j < m → scan-verdict ws (length (lent j)) (length (lists j)) .number ≡ 0
   numbers-taken j l = sym (ap (λ (v : Verdict). v .number) (K .kept j l .answers)) ∙ K .done j l
 
-  reads-numbers : i < block-count (network-in ws) → PointerKept (network-in ws) i m lent left → (j : ℕ) → j < m
-      → reading (network-in ws) i (left j) (map unpacked (numbers j)) ≡ report (network-in ws) i (lent j)
-  reads-numbers there kept j l =
+  pub numbers-show : i < block-count (network-in ws) → (j : ℕ) → j < m
+      → getD (map unpacked (numbers j)) i no-outputs ≡ getD (scanned (network-in ws) (lent j) .outs) i no-outputs
+  numbers-show there j l =
       let outs : List Outputs = scanned (network-in ws) (lent j) .outs in
-      ap₂ (λ (p : Outputs) (x : ℕ). cond (p .middle) (some x) none)
-      (unpacked-at (numbers j) i
+      unpacked-at (numbers j) i
       ∙ ap (λ (list : List ℕ). unpacked (getD list i 0)) (K .kept j l .leaves-other ∙ done-outputs ws (lent j) (lists j) (numbers-taken j l))
       ∙ ap unpacked
       (List·getD-append (map packed outs) (drop (block-count (network-in ws)) (lists j)) 0 i (omega (arith, length-map outs packed, all-outs-count (network-in ws) (lent j)))
       ∙ packed-at outs i)
-      ∙ unpack-pack (getD outs i no-outputs))
-      (kept j l)
+      ∙ unpack-pack (getD outs i no-outputs)
+
+  reads-numbers : i < block-count (network-in ws) → PointerKept (network-in ws) i m lent left → (j : ℕ) → j < m
+      → reading (network-in ws) i (left j) (map unpacked (numbers j)) ≡ report (network-in ws) i (lent j)
+  reads-numbers there kept j l = ap₂ (λ (p : Outputs) (x : ℕ). cond (p .middle) (some x) none) (numbers-show there j l) (kept j l)
 
 pub demand-3-packed : Demand3Packed
 demand-3-packed ws i m lent left lists numbers answers K S kept j l =
@@ -100,17 +103,23 @@ pub as-the-source-has-it : (κs : _) (a : _) (r : Verdict) (s : _) → packed-re
 as-the-source-has-it κs a r s p = p
 
 -- ---- several scans in one call: the block's entries in the lists
+pub entry-shows : (net : Network) (t : List ℕ) (m i : ℕ) {numbers : List ℕ} (more : List ℕ) → i < block-count net → numbers ≡ scans-outputs net t m ++ more
+    → (j : ℕ) → j < m → unpacked (getD numbers (j * block-count net + i) 0) ≡ getD (scanned net (scans-table net t j) .outs) i no-outputs
+entry-shows net t m i more there outs j l =
+    let room = next-room j m (block-count net) (m * block-count net) l (omega arith) in
+    ap (λ (list : List ℕ). unpacked (getD list (j * block-count net + i) 0)) outs
+    ∙ ap unpacked
+    (List·getD-append (scans-outputs net t m) more 0 (j * block-count net + i) (omega (arith, room, outputs-count net m t))
+    ∙ output-entry net j m i t l there)
+    ∙ unpack-pack (getD (scanned net (scans-table net t j) .outs) i no-outputs)
+
 module _ (net : Network) (t : List ℕ) (m i : ℕ) (numbers marks more others : List ℕ) (G : GoodNetwork net) (there : i < block-count net) (compares : block-of net i .kind ≡ 5)
     (outs : numbers ≡ scans-outputs net t m ++ more) (points : marks ≡ scans-pointers net t m ++ others) where
   entry-reads : (j : ℕ) → j < m → entry-read net i numbers marks j ≡ report net i (scans-table net t j)
   entry-reads j l =
       let room = next-room j m (block-count net) (m * block-count net) l (omega arith) in
       ap₂ (λ (p : Outputs) (x : ℕ). cond (p .middle) (some x) none)
-      (ap (λ (list : List ℕ). unpacked (getD list (j * block-count net + i) 0)) outs
-      ∙ ap unpacked
-      (List·getD-append (scans-outputs net t m) more 0 (j * block-count net + i) (omega (arith, room, outputs-count net m t))
-      ∙ output-entry net j m i t l there)
-      ∙ unpack-pack (getD (scanned net (scans-table net t j) .outs) i no-outputs))
+      (entry-shows net t m i more there outs j l)
       (ap (λ (list : List ℕ). getD list (j * block-count net + i) 0) points
       ∙ List·getD-append (scans-pointers net t m) others 0 (j * block-count net + i) (omega (arith, room, pointers-count net m t))
       ∙ pointer-entry net j m i t l there

@@ -1,6 +1,7 @@
--- Demand 3 for what the bench prints: of each scan the text says of a compare block what the scan reports of it. Assumes nothing.
+-- What the bench prints of a block: of each scan the text says whether its middle output is on and, of a compare block, what the scan reports
+-- of it; so demand 3 is what the text says. Assumes nothing.
 use mathlib.Core.Path.{_≡_, refl, sym, ap, ap₂, _∙_, subst}
-use mathlib.Core.Bool.{Bool, cond}
+use mathlib.Core.Bool.{Bool, true, false, cond}
 use mathlib.Core.List.{List, [], _∷_, _++_, append-nil}
 use mathlib.Core.Option.{Option, none, some}
 use Prim.Native.Nat.{ℕ, zero, suc, _+_, _-_, _≤_, _<_}
@@ -24,6 +25,7 @@ use Rattle.lines.specs.Text.{decimal, pointer-field, refusal-line}
 use Rattle.run.specs.Bench.{scan-lines, scans-lines, file-text, words-text}
 use Rattle.rounds.specs.Demand3.{report, register-in, done-by, Steady, Scanning, in-turn, round-at, RoundAt}
 use Rattle.rounds.specs.Bench.{number-in, text-says, Demand3Bench}
+use Rattle.rounds.specs.Lamp.{lit}
 use Rattle.rounds.proofs.Called.{as-read}
 use Rattle.rounds.proofs.Marks.{shown-pointer}
 use Rattle.rounds.proofs.Reading.{decimal-read, Tells, tells-none, tells-both, told-as, all-told, other-line, own-line, head-tells, end-tells}
@@ -52,6 +54,16 @@ in-turn-rest f zero m a l = let e : a ≡ a + 0 = omega arith in let n : m ≡ m
 in-turn-rest f (suc j) zero a l = absurd (omega arith)
 in-turn-rest f (suc j) (suc m) a l =
     let e : suc a + j ≡ a + suc j = omega arith in let n : m - j ≡ suc m - suc j = omega arith in in-turn-rest f j m (suc a) (omega arith) ∙ ap₂ (in-turn f) e n
+
+in-turn-at : (f : ℕ → Option ℕ) (j m a : ℕ) → j < m → getD (in-turn f a m) j none ≡ f (a + j)
+unfolding in-turn
+in-turn-at f j zero a l = absurd (omega arith)
+in-turn-at f zero (suc m) a l = let e : a ≡ a + 0 = omega arith in ap f e
+in-turn-at f (suc j) (suc m) a l = let e : suc a + j ≡ a + suc j = omega arith in in-turn-at f j m (suc a) (omega arith) ∙ ap f e
+
+lit-as : (on : Bool) (pointer : ℕ) → lit (cond on (some pointer) none) ≡ on
+lit-as true pointer = refl
+lit-as false pointer = refl
 
 -- ---- what the lines of scans say of block i + 1
 module _ (net : Network) (i : ℕ) (there : i < block-count net) (few : block-count net ≤ 128) where
@@ -113,9 +125,9 @@ module _ (ws : List ℕ) (odd : Bool) (fine : file-checked ws odd .number ≡ 0)
   scanning : Scanning net (f .run) given
   scanning = record { accepted = good; right-size = λ j l. scans-exact net good j (f .image) (sound .file .image) }
 
-  module _ (S : Steady net i (f .run) given) where
+  module _ (there : i < block-count net) where
     says : ℕ → Option ℕ
-    says j = entry net i (S .there) (good .few) (given j)
+    says j = entry net i there (good .few) (given j)
 
     -- the text of the file
     text-is : text-says (i + 1) (words-text ws odd) ≡ in-turn says 0 (f .run)
@@ -124,15 +136,28 @@ module _ (ws : List ℕ) (odd : Bool) (fine : file-checked ws odd .number ≡ 0)
         ap (λ (a : Bool). text-says (i + 1) (cond a (file-text f) (refusal-line (file-checked ws odd)))) (eq-eqb (file-checked ws odd .number) 0 fine)
         ∙ all-told
         (tells-both
-        (tells-both (head-tells (i + 1) (block-count net) (table-words f)) (all-scans net i (S .there) (good .few) (f .image) 1 (f .run)))
+        (tells-both (head-tells (i + 1) (block-count net) (table-words f)) (all-scans net i there (good .few) (f .image) 1 (f .run)))
         (end-tells (i + 1) (f .run)))
-        ∙ append-nil (in-turn (λ j. entry net i (S .there) (good .few) (given j)) 0 (f .run))
+        ∙ append-nil (in-turn (λ j. entry net i there (good .few) (given j)) 0 (f .run))
 
+    -- it says one thing for each scan, and of that scan whether the block's middle output is on
+    pub said-count : length (text-says (i + 1) (words-text ws odd)) ≡ f .run
+    said-count = ap length text-is ∙ in-turn-count says (f .run) 0
+
+    pub said-lit : (j : ℕ) → j < f .run → lit (getD (text-says (i + 1) (words-text ws odd)) j none) ≡ getD (scanned net (given j) .outs) i no-outputs .middle
+    unfolding says entry
+    said-lit j l =
+        let z : 0 + j ≡ j = omega arith in
+        ap (λ (said : List (Option ℕ)). lit (getD said j none)) text-is
+        ∙ ap lit (in-turn-at says j (f .run) 0 l ∙ ap says z)
+        ∙ lit-as (getD (scanned net (given j) .outs) i no-outputs .middle) (number-in (pointer-field (block-of net i .kind) (getD (scan-pointers net (given j)) i 0)))
+
+  module _ (S : Steady net i (f .run) given) where
     -- a scan's line shows its report
     low : (j : ℕ) → j < f .run → register-in net i (done-by net i (given j)) < 65536
     low j l = omega (arith, done-low scanning S j l, accepted-means (net .sizes) i (block-of net i) (good .blocks i (S .there)) .compare (S .compares) .few)
 
-    shown : (j : ℕ) → j < f .run → says j ≡ report net i (given j)
+    shown : (j : ℕ) → j < f .run → says (S .there) j ≡ report net i (given j)
     unfolding says entry pointer-field
     shown j l =
         ap (λ (k : ℕ). cond (getD (scanned net (given j) .outs) i no-outputs .middle) (some (number-in (cond (has-pointer k) (decimal (getD (scan-pointers net (given j)) i 0)) (45 ∷ [])))) none) (S .compares)
@@ -144,16 +169,16 @@ demand-3-bench bytes fine i S =
     let ws : List ℕ = words-in bytes in
     let odd : Bool = odd-byte bytes in
     let m : ℕ = file-in ws .run in
-    let told = text-is ws odd fine i S in
+    let say : ℕ → Option ℕ = says ws odd fine i (S .there) in
     record {
-      for-each = ap length told ∙ in-turn-count (says ws odd fine i S) m 0;
+      for-each = said-count ws odd fine i (S .there);
       rounds = λ j l.
           let c : ℕ = round-at (file-in ws .network) i (scans-table (file-in ws .network) (file-in ws .image)) j in
           let z : 0 + j ≡ j = omega arith in
           subst (RoundAt (file-in ws .network) i (scans-table (file-in ws .network) (file-in ws .image)) j)
           (sym
-          (ap (λ (x : List (Option ℕ)). take c (drop j x)) told
-          ∙ ap (take c) (in-turn-rest (says ws odd fine i S) j m 0 (omega arith) ∙ ap (λ (x : ℕ). in-turn (says ws odd fine i S) x (m - j)) z)
-          ∙ in-turn-front (says ws odd fine i S) c (m - j) j (omega arith)))
-          (as-read (scanning ws odd fine i) S (says ws odd fine i S) (shown ws odd fine i S) j l);
+          (ap (λ (x : List (Option ℕ)). take c (drop j x)) (text-is ws odd fine i (S .there))
+          ∙ ap (take c) (in-turn-rest say j m 0 (omega arith) ∙ ap (λ (x : ℕ). in-turn say x (m - j)) z)
+          ∙ in-turn-front say c (m - j) j (omega arith)))
+          (as-read (scanning ws odd fine i) S say (shown ws odd fine i S) j l);
     }

@@ -1,6 +1,8 @@
--- What a round is, its premises and its conclusion; the tests that give a premise; the calls; and when a compare finds nothing.
+-- What a round is, its premises and its conclusion; the tests that give a premise; the calls; when a compare finds nothing; and
+-- MBIT's middle lamp.
 pub mod Demand3
 pub mod Tests
 pub mod Calls
 pub mod Bench
 pub mod Found
+pub mod Lamp

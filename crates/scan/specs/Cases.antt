@@ -1,5 +1,6 @@
 -- P1 to P14 of document 01 ("Both sides of the edges, in hex words"), one table, and the statement about all of it: a row has the case's
--- label, its network of one block at any level, the table before the scan, and the table and the outputs after it. Assumes nothing.
+-- label, its network of one block at any level, the table before the scan, and the table and the outputs after it. P14's middle output is
+-- that of document 02, ticket 2. Assumes nothing.
 use Prim.Native.Nat.{ℕ}
 use Prim.Native.String.{String}
 use mathlib.Core.Path.{_≡_}
@@ -113,7 +114,7 @@ cases =
     ∷ case "P11" (over-registers (block BROT 2 1 3 all-on)) (registers 0x8000 0x0001 0x5555 0x5555) (registers 0x8000 0x0001 0x0000 0x0003) (on-and true false)
     ∷ case "P12" (usual COMP 2 top-on) (registers 0x0000 0x0f0f 0x1234 0) (registers 0x0000 0xffff 0xf0f0 0) (on-and false false)
     ∷ case "P13" (usual MBIT 1 all-on) (registers 16 0x0000 0 0) (registers 1 0x0001 0 0) (on-and true false)
-    ∷ case "P14" (usual MBIT 1 all-on) (registers 17 0x0000 0 0) (registers 17 0x0000 0 0) (on-and false true)
+    ∷ case "P14" (usual MBIT 1 all-on) (registers 17 0x0000 0 0) (registers 17 0x0000 0 0) (on-and true true)
     ∷ []
 
 -- ---- the statement

@@ -50,6 +50,9 @@ mul-size c = let h = lies (c .before .before .before) in omega (arith, h .few)
 cast-size : tie.Need-cast-size
 cast-size c = let h = lies (c .before .before .before) in omega (arith, h .few)
 
+both-requires : tie.Need-both-requires
+both-requires c κs = search needs
+
 finished-requires : tie.Need-finished-requires
 finished-requires c κs = search needs
 
@@ -58,9 +61,9 @@ same-length c = search needs
 
 returns-2 : tie.Need-returns-2
 returns-2 c =
-    let x = c .before .before .before .before .before .before .before .before .before .args in
-    does (none (c .before .before .before .before .before .before))
-    (modify-off (eqb (x .node .class) 4) (pointer-at (x .node) (x .p) (now (x .table))) (now (x .table)) (x .d) (x .p) (x .n) (x .on) (is-off (x .on .top) (c .before .if2 .taken)))
+    let x = c .before .before .before .before .before .before .before .before .before .before .args in
+    does (none (c .before .before .before .before .before .before .before))
+    (modify-off (eqb (x .node .class) 4) (pointer-at (x .node) (x .p) (now (x .table))) (now (x .table)) (x .d) (x .p) (x .n) (x .on) (c .before .before .before .both .ensures) (is-off (x .on .top) (c .before .if2 .taken)))
     (c .finished .ensures)
 
 finished-requires-2 : tie.Need-finished-requires-2
@@ -71,30 +74,27 @@ same-length-2 c = search needs
 
 returns-3 : tie.Need-returns-3
 returns-3 c =
-    let x = c .before .before .before .before .before .before .before .before .before .before .args in
-    does (none (c .before .before .before .before .before .before .before))
-    (modify-over (eqb (x .node .class) 4) (pointer-at (x .node) (x .p) (now (x .table))) (now (x .table)) (x .d) (x .p) (x .n) (x .on) (is-on (x .on .top) (c .before .before .if2 .left))
-    (subst (λ (at : ℕ). 16 * x .n < at) (c .before .before .before .before .pointer-in .ensures) (c .before .if3 .taken)))
+    let x = c .before .before .before .before .before .before .before .before .before .before .before .args in
+    does (none (c .before .before .before .before .before .before .before .before))
+    (modify-over (eqb (x .node .class) 4) (pointer-at (x .node) (x .p) (now (x .table))) (now (x .table)) (x .d) (x .p) (x .n) (x .on) (c .before .before .before .before .both .ensures) (is-on (x .on .top) (c .before .before .if2 .left))
+    (subst (λ (at : ℕ). 16 * x .n < at) (c .before .before .before .before .before .pointer-in .ensures) (c .before .if3 .taken)))
     (c .finished2 .ensures)
 
 put-at-requires : tie.Need-put-at-requires
-put-at-requires c κs = (lies (c .before .before .before .before .before .before .before), c .before .if3 .left)
+put-at-requires c κs = (lies (c .before .before .before .before .before .before .before .before), c .before .if3 .left)
 
-both-requires : tie.Need-both-requires
-both-requires c κs = search needs
+both-requires-2 : tie.Need-both-requires-2
+both-requires-2 c κs = search needs
 
 next-requires : tie.Need-next-requires
 next-requires c κs = search needs
 
 put-pointer-requires : tie.Need-put-pointer-requires
 put-pointer-requires c κs asked =
-    let x = c .before .before .before .before .before .before .before .before .before .before .before .before .before .before .before .before .args in
-    let both = c .before .before .both .ensures in
-    let h = register (c .before .before .before .before .before .before .before .before .before .before .before .before .before) (search (and-held)) in
+    let x = c .before .before .before .before .before .before .before .before .before .before .before .before .before .before .before .before .before .args in
+    let both = c .before .before .both2 .ensures in
+    let h = register (c .before .before .before .before .before .before .before .before .before .before .before .before .before .before) (search (and-held)) in
     omega (arith, h, c .before .before .before .before .table .given)
-
-both-requires-2 : tie.Need-both-requires-2
-both-requires-2 c κs = search needs
 
 finished-requires-3 : tie.Need-finished-requires-3
 finished-requires-3 c κs = search needs
@@ -107,10 +107,10 @@ returns-4 c =
     let x = c .before .before .before .before .before .before .before .before .before .before .before .before .before .before .before .before .before .before .before .before .before .args in
     let held = eqb (x .node .class) 4 in
     does (none (c .before .before .before .before .before .before .before .before .before .before .before .before .before .before .before .before .before .before))
-    (subst (λ (at : ℕ). Did (x .on) (modified-at held at (now (x .table)) (x .d) (x .n) (x .on)) (x .d) (x .n) (x .p) (now (x .table)) (shows (x .on .top) (c .before .both2 .result) false) (c .before .before .before .before .put-pointer .last .0))
+    (subst (λ (at : ℕ). Did (x .on) (modified-at held at (now (x .table)) (x .d) (x .n) (x .on)) (x .d) (x .n) (x .p) (now (x .table)) (shows (x .on .top) (c .before .before .before .before .before .before .before .before .before .before .before .before .before .before .both .result) false) (c .before .before .before .put-pointer .last .0))
     (c .before .before .before .before .before .before .before .before .before .before .before .before .before .before .before .pointer-in .ensures)
-    (modify-on held (c .before .before .before .before .before .before .before .before .before .before .before .before .before .before .before .pointer-in .result) (now (x .table)) (x .d) (x .p) (x .n) (x .on) (is-on (x .on .top) (c .before .before .before .before .before .before .before .before .before .before .before .before .before .if2 .left)) (c .before .before .before .before .before .before .before .before .before .before .before .before .if3 .left)
-    (c .before .before .before .before .before .before .before .both .ensures) (c .before .before .before .before .before .next .ensures) (c .before .before .before .before .before .before .before .before .before .before .put-at .ensures) (c .before .before .before .before .put-pointer .ensures) (c .before .both2 .ensures)))
+    (modify-on held (c .before .before .before .before .before .before .before .before .before .before .before .before .before .before .before .pointer-in .result) (now (x .table)) (x .d) (x .p) (x .n) (x .on) (c .before .before .before .before .before .before .before .before .before .before .before .before .before .before .both .ensures) (is-on (x .on .top) (c .before .before .before .before .before .before .before .before .before .before .before .before .if2 .left)) (c .before .before .before .before .before .before .before .before .before .before .before .if3 .left)
+    (c .before .before .before .before .before .before .both2 .ensures) (c .before .before .before .before .next .ensures) (c .before .before .before .before .before .before .before .before .before .put-at .ensures) (c .before .before .before .put-pointer .ensures)))
     (c .finished3 .ensures)
 
 pub modify-spec : {M : Type 1} → statement M
@@ -123,6 +123,7 @@ modify-spec =
     pointer-in-requires
     mul-size
     cast-size
+    both-requires
     finished-requires
     same-length
     returns-2
@@ -130,10 +131,9 @@ modify-spec =
     same-length-2
     returns-3
     put-at-requires
-    both-requires
+    both-requires-2
     next-requires
     put-pointer-requires
-    both-requires-2
     finished-requires-3
     same-length-3
     returns-4)
