@@ -502,7 +502,8 @@ def brot_enters(read, left):
     return 0
 
 
-# "over 16n nothing is done, the pointer stays, ... and bottom on" "0 touches no bit, ... bottom off; from 1 to 16n bottom is off"
+# "over 16n nothing is done, the pointer stays, ... and bottom on"
+# "0 touches no bit, ... bottom off; from 1 to 16n bottom is off"
 # 02: "with power on top, MBIT's middle output equals its middle input, for pointer 0 and over 16n too"
 def mbit_block(read):
     if not read.top:
