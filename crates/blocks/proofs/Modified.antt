@@ -12,10 +12,11 @@ use Rattle.blocks.specs.declared.Power.{Power}
 use Rattle.blocks.specs.Kind.{kind-of}
 use Rattle.blocks.specs.Kind.Kind.{MBIT}
 use Rattle.blocks.specs.View.{View, first-word, view}
-use Rattle.blocks.specs.Effect.{Effect, effect, idle, into, increased, modify, effect-of}
-use Rattle.blocks.specs.Effect.Change.{stays, puts}
+use Rattle.blocks.specs.Effect.{Effect, idle, modify, effect-of}
+use Rattle.blocks.specs.Effect.Change.{puts}
 use Rattle.blocks.specs.Work.{pointer-node, one-word, effect-on, block-outputs}
 use Rattle.blocks.specs.Truths.{matrix-bit, change-bit, coil-bit, later, or-stays, ModifiesOneBit, MiddleFollows, LampFollows}
+use Rattle.blocks.proofs.Places.{modify-worked}
 use Rattle.blocks.proofs.Written.{every-bit, beside-pointer}
 use Rattle.blocks.proofs.Puts.{Off}
 
@@ -24,11 +25,8 @@ module _ (held : Bool) (n : ℕ) (v : View) (on : Power) where
   abbrev at : ℕ
   at = v .pointer
 
-  -- with power, by whether the pointer is over 16n and whether it is 0
   abbrev worked : Bool → Bool → Effect
-  worked over zero-there =
-      cond over (effect stays none (on .middle) true)
-      (effect (cond zero-there stays (puts at (on .middle))) (increased (held && on .bottom) none (into n at)) (on .middle) false)
+  worked = modify-worked held n v on
 
   middle-is : modify held n v on .middle ≡ (on .top && on .middle)
   unfolding modify

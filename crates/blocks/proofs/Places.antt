@@ -70,6 +70,12 @@ either : {D : Type 0} {P : List ℕ → Type 0} {n : ℕ} {x y : Effect} (c : Bo
 either true h k = h
 either false h k = k
 
+-- MBIT's rule with power, by whether its pointer is over 16n and whether it is 0
+abbrev pub modify-worked : Bool → ℕ → View → Power → Bool → Bool → Effect
+modify-worked held n v on over zero-there =
+    cond over (effect stays none (on .middle) true)
+    (effect (cond zero-there stays (puts (v .pointer) (on .middle))) (increased (held && on .bottom) none (into n (v .pointer))) (on .middle) false)
+
 -- by the rule of each kind: AND, OR, XOR, COMP and BROT write a destination of n words, CMPR a pointer, MBIT a bit of n words and a pointer, SENS
 -- a pointer; MBIT and SENS write a pointer only where it is held
 module _ {D : Type 0} {P : List ℕ → Type 0} (n : ℕ) (v : View) (on : Power) where
@@ -101,9 +107,8 @@ module _ {D : Type 0} {P : List ℕ → Type 0} (n : ℕ) (v : View) (on : Power
         new : Each P (one-word (increased (held && on .bottom) none (into n (v .pointer))))
         new = held-word held (on .bottom) _ none h nothing
 
-        go : (over : Bool) → ltb (16 * n) (v .pointer) ≡ over → (none-there : Bool) → eqb (v .pointer) 0 ≡ none-there
-            → Writes D P n (cond over (effect stays none (on .middle) true)
-            (effect (cond none-there stays (puts (v .pointer) (on .middle))) (increased (held && on .bottom) none (into n (v .pointer))) (on .middle) false))
+        go : (over : Bool) → ltb (16 * n) (v .pointer) ≡ over → (zero-there : Bool) → eqb (v .pointer) 0 ≡ zero-there
+            → Writes D P n (modify-worked held n v on over zero-there)
         go true e z f = made n stays tt nothing
         go false e true f = made n stays tt new
         go false e false f =

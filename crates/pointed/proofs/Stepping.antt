@@ -1,7 +1,7 @@
 -- The laws of a bit put or read at a pointer, and of the pointer's steps where they are asked for. Assumes nothing.
 use mathlib.Core.Path.{_≡_, refl, sym, ap, ap₂, _∙_}
 use mathlib.Core.Bool.{Bool, true, false, cond, _&&_, _||_}
-use mathlib.Core.List.{List}
+use mathlib.Core.List.{List, []}
 use mathlib.Core.Option.{Option, none, some}
 use Prim.Native.Nat.{ℕ, _*_, _≤_, _<_}
 use native.Mathlib.Omega.{arith}
@@ -13,12 +13,14 @@ use Rattle.runs.specs.Run.{run}
 use Rattle.pointer.specs.Pointer.{reset, advanced, set-to, next-of}
 use Rattle.pointer.proofs.Pointers.{size-right, reset-to}
 use Rattle.blocks.specs.declared.Power.{Power}
-use Rattle.blocks.specs.Effect.{Change, Effect, effect, idle, into, increased, modify, sense}
-use Rattle.blocks.specs.Effect.Change.{stays, puts}
+use Rattle.blocks.specs.View.{seen}
+use Rattle.blocks.specs.Effect.{Effect, effect, idle, into, increased, modify, sense}
+use Rattle.blocks.specs.Effect.Change.{stays}
 use Rattle.blocks.specs.Work.{matrix-put, change-put, one-word, shows}
 use Rattle.pointed.specs.Call.{modified-at, sensed-at}
 use Rattle.pointed.specs.Inner.{put-at}
 use Rattle.blocks.proofs.Doing.{Did, by-effect}
+use Rattle.blocks.proofs.Places.{modify-worked}
 
 -- what is asked of a pointer is asked of one that is held
 pub and-held : (held a : Bool) {asked : Bool} → asked ≡ (held && a) → asked ≡ true → held ≡ true
@@ -36,14 +38,8 @@ where-asked false x y = refl
 
 -- ---- MBIT
 module _ (held : Bool) (at : ℕ) (t : List ℕ) (d p n : ℕ) (on : Power) where
-  marked : Change
-  marked = cond (eqb at 0) stays (puts at (on .middle))
-
   modified : Bool → Bool → Effect
-  modified power over =
-      cond power
-      (cond over (effect stays none (on .middle) true) (effect marked (increased (held && on .bottom) none (into n at)) (on .middle) false))
-      (idle none)
+  modified power over = cond power (modify-worked held n (seen [] (run t d n) at) on over (eqb at 0)) (idle none)
 
   -- the middle output shows the middle input, with power on top
   module _ {lit : Bool} (m : lit ≡ (on .top && on .middle)) where
@@ -51,7 +47,7 @@ module _ (held : Bool) (at : ℕ) (t : List ℕ) (d p n : ℕ) (on : Power) wher
     lit-by e = m ∙ ap (λ (a : Bool). a && on .middle) e
 
     pub modify-off : on .top ≡ false → Did on (modified-at held at t d n on) d n p t (shows (on .top) lit false) t
-    unfolding modify modified marked matrix-put change-put
+    unfolding modify modified matrix-put change-put
     modify-off e =
         by-effect on d n p t (shows (on .top) lit false) t (ap (λ (a : Bool). modified a (ltb (16 * n) at)) e) (record {
           answers = ap (λ (a : Bool). shows (on .top) a false) (lit-by e);
@@ -59,7 +55,7 @@ module _ (held : Bool) (at : ℕ) (t : List ℕ) (d p n : ℕ) (on : Power) wher
         })
 
     pub modify-over : on .top ≡ true → 16 * n < at → Did on (modified-at held at t d n on) d n p t (shows (on .top) lit true) t
-    unfolding modify modified marked matrix-put change-put
+    unfolding modify modified matrix-put change-put
     modify-over e l =
         by-effect on d n p t (shows (on .top) lit true) t (ap₂ modified e (lt-ltb (16 * n) at l)) (record {
           answers = ap (λ (a : Bool). shows (on .top) a true) (lit-by e);
@@ -69,7 +65,7 @@ module _ (held : Bool) (at : ℕ) (t : List ℕ) (d p n : ℕ) (on : Power) wher
     pub modify-on : on .top ≡ true → at ≤ 16 * n → {asked : Bool} → asked ≡ (held && on .bottom) → {w : ℕ} → w ≡ next-of asked (into n at)
         → {there table : List ℕ} → there ≡ put-at t d n at (on .middle) → table ≡ matrix-put p (one-word (cond asked (some w) none)) there
         → Did on (modified-at held at t d n on) d n p t (shows (on .top) lit false) table
-    unfolding modify modified marked
+    unfolding modify modified
     modify-on e l {asked} r {w} q {there} {table} h k =
         by-effect on d n p t (shows (on .top) lit false) table (ap₂ modified e (le-ltb (16 * n) at l)) (record {
           answers = ap (λ (a : Bool). shows (on .top) a false) (lit-by e);

@@ -46,6 +46,6 @@ lamp-printed bytes fine i M =
     let f : File = file-in (words-in bytes) in
     record {
       for-each = said-count (words-in bytes) (odd-byte bytes) fine i (M .there);
-      lit-as-the-lamp = λ j l.
+      lit-where-it-lights = λ j l.
           said-lit (words-in bytes) (odd-byte bytes) fine i (M .there) j l ∙ lamp-scanned (f .network) i M (scans-table (f .network) (f .image) j);
     }

@@ -28,27 +28,27 @@ pub record Modifies (net : Network) (i : ℕ) : Type 0 where
   pub there : i < block-count net
   pub modifies : block-of net i .kind ≡ 6
 
--- its lamp in a scan of a table: lit where its top and its middle input have power when its turn comes, whatever its pointer
-abbrev pub lamp : Network → ℕ → Table → Bool
-lamp net i t = power-at net i t .top && power-at net i t .middle
+-- it lights its lamp in a scan of a table: its top and its middle input have power when its turn comes, whatever its pointer
+abbrev pub lights : Network → ℕ → Table → Bool
+lights net i t = power-at net i t .top && power-at net i t .middle
 
 -- ---- a scan: the middle output among the scan's own
 abbrev pub LampScanned : Type 0
-LampScanned = (net : Network) (i : ℕ) → Modifies net i → (t : Table) → getD (scanned net t .outs) i no-outputs .middle ≡ lamp net i t
+LampScanned = (net : Network) (i : ℕ) → Modifies net i → (t : Table) → getD (scanned net t .outs) i no-outputs .middle ≡ lights net i t
 
 -- ---- m calls of `scan`: the block's entry in the list of records
 abbrev pub LampRecords : Type 0
 LampRecords =
     (ws : Words) (i m : ℕ) (lent left : ℕ → Table) (lists records : ℕ → List Outputs) (answers : ℕ → Verdict) →
     RecordCalls ws m lent left lists records answers → let net = network-in ws in
-    Modifies net i → (j : ℕ) → j < m → getD (records j) i no-outputs .middle ≡ lamp net i (lent j)
+    Modifies net i → (j : ℕ) → j < m → getD (records j) i no-outputs .middle ≡ lights net i (lent j)
 
 -- of `scan_packed`, whose list has numbers
 abbrev pub LampPacked : Type 0
 LampPacked =
     (ws : Words) (i m : ℕ) (lent left : ℕ → Table) (lists numbers : ℕ → List ℕ) (answers : ℕ → Verdict) →
     PackedCalls ws m lent left lists numbers answers → let net = network-in ws in
-    Modifies net i → (j : ℕ) → j < m → getD (map unpacked (numbers j)) i no-outputs .middle ≡ lamp net i (lent j)
+    Modifies net i → (j : ℕ) → j < m → getD (map unpacked (numbers j)) i no-outputs .middle ≡ lights net i (lent j)
 
 -- one call of `scans`: the block's entry of each scan
 abbrev pub LampScans : Type 0
@@ -59,7 +59,7 @@ LampScans =
     (scans-packed ws t times outputs (length pointers)) (scans-pointed ws t times (length outputs) pointers)
     answer left numbers marks → answer .number ≡ 0 →
     let net = network-in ws in (i : ℕ) → Modifies net i → (j : ℕ) → j < times →
-    unpacked (getD numbers (j * block-count net + i) 0) .middle ≡ lamp net i (scans-table net t j)
+    unpacked (getD numbers (j * block-count net + i) 0) .middle ≡ lights net i (scans-table net t j)
 
 -- ---- what the bench prints
 
@@ -68,11 +68,11 @@ abbrev pub lit : Option ℕ → Bool
 lit none = false
 lit (some pointer) = true
 
--- of an accepted file whose block i + 1 is an MBIT the text says one thing of that block for each scan, and it is lit where the lamp is
+-- of an accepted file whose block i + 1 is an MBIT the text says one thing of that block for each scan, and it is lit where the block lights its lamp
 pub record ShowsLamp (bytes : Bytes) (i : ℕ) : Type 0 where
   pub for-each : length (text-says (i + 1) (bench-text bytes)) ≡ file-in (words-in bytes) .run
-  pub lit-as-the-lamp : (j : ℕ) → let f = file-in (words-in bytes) in j < f .run →
-      lit (getD (text-says (i + 1) (bench-text bytes)) j none) ≡ lamp (f .network) i (scans-table (f .network) (f .image) j)
+  pub lit-where-it-lights : (j : ℕ) → let f = file-in (words-in bytes) in j < f .run →
+      lit (getD (text-says (i + 1) (bench-text bytes)) j none) ≡ lights (f .network) i (scans-table (f .network) (f .image) j)
 
 abbrev pub LampPrinted : Type 0
 LampPrinted =
