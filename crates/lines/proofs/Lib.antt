@@ -1,5 +1,2 @@
--- The laws of the text of a line, for the proofs here and in the crates above; the theorems.
-pub mod Decimal
+-- The theorem about the line of a block.
 pub mod Determined
-pub mod Laying
-pub mod Putting

@@ -1,9 +1,9 @@
 // Bytes and numbers put into a lent buffer, from a place on. Each answers the place after what it put.
 ghost use Prim.Native.Nat.{_+_, _≤_, _<_};
-ghost use mathlib.Core.List.{_++_, [], _∷_};
+ghost use mathlib.Core.List.{[], _∷_};
 ghost use lib.ListN.{length};
-ghost use Rattle.lines.specs.Text.{digits, decimal};
-ghost use Rattle.lines.specs.Inner.{Put};
+ghost use Rattle.text.specs.Text.{low, digits, decimal};
+ghost use Rattle.text.specs.Inner.{Put};
 
 pub(crate) fn put_byte(text: &mut [u8], at: usize, byte: u8) -> usize
     requires { ⌜ at < length (now text) ⌝ }
@@ -13,17 +13,19 @@ pub(crate) fn put_byte(text: &mut [u8], at: usize, byte: u8) -> usize
     at + 1
 }
 
-pub(crate) fn put_bytes(text: &mut [u8], at: usize, bytes: &[u8]) -> usize
-    requires { ⌜ at + length (now bytes) ≤ length (now text) ⌝ }
-    ensures { λ r. ⌜
-        Put (length (now (bytes .entry))) (now (text .entry)) at (now (bytes .entry)) r (now (text .exit)) ⌝ }
+// The eight bytes of a machine word, the lowest first.
+pub(crate) fn put_eight(text: &mut [u8], at: usize, x: u64)
+    requires { ⌜ at + 8 ≤ length (now text) ⌝ }
+    ensures { λ _. ⌜ Put 8 (now (text .entry)) at (low 8 x) (at + 8) (now (text .exit)) ⌝ }
 {
-    let mut i = 0;
-    while i < bytes.len() {
-        text[at + i] = bytes[i];
-        i += 1;
-    }
-    at + i
+    text[at] = (x % 256) as u8;
+    text[at + 1] = (x / 256 % 256) as u8;
+    text[at + 2] = (x / 65536 % 256) as u8;
+    text[at + 3] = (x / 16777216 % 256) as u8;
+    text[at + 4] = (x / 4294967296 % 256) as u8;
+    text[at + 5] = (x / 1099511627776 % 256) as u8;
+    text[at + 6] = (x / 281474976710656 % 256) as u8;
+    text[at + 7] = (x / 72057594037927936 % 256) as u8;
 }
 
 // The last decimal digit of a number.
@@ -65,13 +67,4 @@ pub(crate) fn put_number(text: &mut [u8], at: usize, n: u16) -> usize
     let next = put_digit(text, at, n / 10000);
     let next = put_two_digits(text, next, n / 100);
     put_two_digits(text, next, n)
-}
-
-// A number and the byte that ends its field.
-pub(crate) fn put_field(text: &mut [u8], at: usize, n: u16, byte: u8) -> usize
-    requires { ⌜ at + 6 ≤ length (now text) ⌝ }
-    ensures { λ r. ⌜ Put 6 (now (text .entry)) at (decimal n ++ byte ∷ []) r (now (text .exit)) ⌝ }
-{
-    let next = put_number(text, at, n);
-    put_byte(text, next, byte)
 }

@@ -1,11 +1,13 @@
 -- The laws of a record's words: they spell it. Assumes nothing.
-use mathlib.Core.Path.{_≡_, refl}
+use mathlib.Core.Path.{_≡_, refl, _∙_}
 use mathlib.Core.List.{List, [], _∷_, _++_}
-use Prim.Native.Nat.{ℕ, _≤_}
+use Prim.Native.Nat.{ℕ, _+_, _≤_}
 use native.Mathlib.Omega.{arith}
 use lib.ListN.{length, drop}
+use Rattle.section.specs.Walk.{word}
+use Rattle.section.proofs.Words.{word-here, word-from}
 use Rattle.record.specs.declared.Block.{Block}
-use Rattle.record.specs.Record.{record-words, block-in, spelled}
+use Rattle.record.specs.Record.{record-words, block-in, block-from, spelled}
 
 pub spelled-long : (b : Block) → length (spelled b) ≡ record-words
 unfolding spelled
@@ -19,6 +21,30 @@ spelled-back b after = refl
 pub spelled-rest : (b : Block) (after : List ℕ) → drop record-words (spelled b ++ after) ≡ after
 unfolding spelled
 spelled-rest b after = refl
+
+-- a record's words, each where it stands, are those at the front of what is left
+module _ (ws : List ℕ) (i : ℕ) where
+  -- the part from word a of the record on, and its word k; and of a part of that part
+  part : (a k : ℕ) → word ws (i + (a + k)) ≡ word (drop a (drop i ws)) k
+  part a k = word-from ws i (a + k) ∙ word-from (drop i ws) a k
+
+  wire : (a k : ℕ) → word ws (i + (6 + (a + k))) ≡ word (drop a (drop 6 (drop i ws))) k
+  wire a k = part 6 (a + k) ∙ word-from (drop 6 (drop i ws)) a k
+
+  pub block-there : block-from ws i ≡ block-in (drop i ws)
+  unfolding block-in
+  block-there = λ j. record {
+    kind = word-here ws i j;
+    n = word-from ws i 1 j;
+    top = record { class = part 2 0 j; number = part 2 1 j };
+    middle = record { class = part 4 0 j; number = part 4 1 j };
+    inputs = record {
+      top = record { code = part 6 0 j; number = part 6 1 j };
+      middle = record { code = wire 2 0 j; number = wire 2 1 j };
+      bottom = record { code = wire 4 0 j; number = wire 4 1 j };
+    };
+    coils = record { top = part 12 0 j; middle = part 12 1 j; bottom = part 12 2 j };
+  }
 
 -- 15 words or more are those of the record that they spell, and what follows
 pub fifteen : (ws : List ℕ) → record-words ≤ length ws → spelled (block-in ws) ++ drop record-words ws ≡ ws

@@ -1,6 +1,6 @@
 -- A block's record and its 15 words (document 01, "A network in words"): kind; length n; top node (class, number); middle
 -- node (class, number); top, middle and bottom input (code, number each); three coil numbers. Assumes nothing.
-use Prim.Native.Nat.{ℕ}
+use Prim.Native.Nat.{ℕ, _+_}
 use mathlib.Core.List.{[], _∷_}
 use lib.ListN.{drop}
 use Rattle.verdict.specs.Lists.{Words}
@@ -32,6 +32,21 @@ block-in ws = record {
   middle = node-in (drop 4 ws);
   inputs = inputs-in (drop 6 ws);
   coils = coils-in (drop 12 ws);
+}
+
+-- the record from an index on, each word where it stands: `block-in` of what is left when the words before are dropped
+abbrev pub block-from : Words → ℕ → Block
+block-from ws i = record {
+  kind = word ws i;
+  n = word ws (i + 1);
+  top = record { class = word ws (i + 2); number = word ws (i + 3) };
+  middle = record { class = word ws (i + 4); number = word ws (i + 5) };
+  inputs = record {
+    top = record { code = word ws (i + 6); number = word ws (i + 7) };
+    middle = record { code = word ws (i + 8); number = word ws (i + 9) };
+    bottom = record { code = word ws (i + 10); number = word ws (i + 11) };
+  };
+  coils = record { top = word ws (i + 12); middle = word ws (i + 13); bottom = word ws (i + 14) };
 }
 
 -- a record's words

@@ -3,9 +3,9 @@
 // Any 15 words are a record. A word that is missing reads as 0.
 use section::word;
 ghost use mathlib.Core.Path.{_≡_};
-ghost use Prim.Native.Nat.{_+_};
-ghost use lib.ListN.{drop};
-ghost use Rattle.record.specs.Record.{node-in, input-in, coils-in, block-in};
+ghost use Prim.Native.Nat.{_+_, _≤_};
+ghost use lib.ListN.{length, drop};
+ghost use Rattle.record.specs.Record.{node-in, input-in, coils-in, block-in, block-from};
 
 // A reference: its class (0, 1, 3 or 4, or 9 for a constant) and its number.
 pub struct Node {
@@ -74,8 +74,8 @@ fn coils_at(words: &[u16], at: u32, after: u32) -> Coils
     }
 }
 
-// The record whose words stand from an index on.
-pub fn block_at(words: &[u16], at: u32) -> Block
+// The record whose words stand from an index on, one word after the other; any of them may be missing.
+fn part_block_at(words: &[u16], at: u32) -> Block
     ensures { λ r. ⌜ r ≡ block-in (drop at (now (words .entry))) ⌝ }
 {
     let i = at as usize;
@@ -91,4 +91,53 @@ pub fn block_at(words: &[u16], at: u32) -> Block
         },
         coils: coils_at(words, at, 12),
     }
+}
+
+// The record whose 15 words stand from an index on.
+fn whole_block_at(words: &[u16], i: usize) -> Block
+    requires { ⌜ i + 15 ≤ length (now words) ⌝ }
+    ensures { λ r. ⌜ r ≡ block-from (now (words .entry)) i ⌝ }
+{
+    Block {
+        kind: words[i],
+        n: words[i + 1],
+        top: Node {
+            class: words[i + 2],
+            number: words[i + 3],
+        },
+        middle: Node {
+            class: words[i + 4],
+            number: words[i + 5],
+        },
+        inputs: Inputs {
+            top: Input {
+                code: words[i + 6],
+                number: words[i + 7],
+            },
+            middle: Input {
+                code: words[i + 8],
+                number: words[i + 9],
+            },
+            bottom: Input {
+                code: words[i + 10],
+                number: words[i + 11],
+            },
+        },
+        coils: Coils {
+            top: words[i + 12],
+            middle: words[i + 13],
+            bottom: words[i + 14],
+        },
+    }
+}
+
+// The record whose words stand from an index on: whether all are there is tested once.
+pub fn block_at(words: &[u16], at: u32) -> Block
+    ensures { λ r. ⌜ r ≡ block-in (drop at (now (words .entry))) ⌝ }
+{
+    let i = at as usize;
+    if i + 15 <= words.len() {
+        return whole_block_at(words, i);
+    }
+    part_block_at(words, at)
 }

@@ -2,9 +2,9 @@
 -- reports of demand 3. Assumes nothing.
 use mathlib.Core.Path.{_≡_, refl, sym, ap, ap₂, _∙_, subst}
 use mathlib.Core.Bool.{cond}
-use mathlib.Core.List.{List, _∷_, _++_, map}
+use mathlib.Core.List.{List, _∷_, map}
 use mathlib.Core.Option.{Option, none, some}
-use Prim.Native.Nat.{ℕ, zero, suc, _+_, _*_, _≤_, _<_}
+use Prim.Native.Nat.{ℕ, zero, suc, _+_, _≤_, _<_}
 use native.Mathlib.Omega.{arith}
 use lib.ListN.{length, getD, drop, length-map, List·getD-append}
 use denote.Ref.{now}
@@ -12,24 +12,19 @@ use Rattle.verdict.specs.declared.Verdict.{Verdict}
 use Rattle.verdict.specs.Promise.{LeavesTwo}
 use Rattle.network.specs.Network.{Network, block-of, block-count}
 use Rattle.network.specs.Check.{network-in}
-use Rattle.network.specs.Sound.{GoodNetwork}
 use Rattle.network.proofs.Values.{accepted-good}
 use Rattle.blocks.specs.declared.Outputs.{Outputs}
 use Rattle.blocks.specs.Answer.{no-outputs}
 use Rattle.blocks.specs.Packed.{packed, unpacked}
 use Rattle.scan.specs.Scan.{scanned, scan-verdict, scan-table, scan-packed}
-use Rattle.scan.specs.Scans.{scans-table, scans-outputs, scans-pointers, scans-verdict}
-use Rattle.scan.proofs.Kept.{exact-table, checks, done-outputs, done-records, scans-checks, scans-exact-table, done-packed, done-pointed}
-use Rattle.scan.proofs.Repeating.{next-room, outputs-count, pointers-count, scans-exact}
-use Rattle.run.proofs.Printing.{output-entry, pointer-entry}
+use Rattle.scan.proofs.Kept.{exact-table, checks, done-outputs, done-records}
 use Rattle.scan.proofs.Packing.{packed-at, unpack-pack}
 use Rattle.scan.proofs.Scanning.{all-outs-count}
 use Rattle.scan.proofs.scan_packed.Reads as packed-reads
 use Rattle.inputs.proofs.Wired.{unpacked-at}
 use Rattle.rounds.specs.Demand3.{source-found, matrix-found, report, Steady, Scanning, in-turn, round-at, RoundAt}
-use Rattle.rounds.specs.Calls.{reading, PointerKept, RecordCalls, Demand3Records, PackedCalls, Demand3Packed, entry-read, Demand3Scans}
+use Rattle.rounds.specs.Calls.{reading, PointerKept, RecordCalls, Demand3Records, PackedCalls, Demand3Packed}
 use Rattle.rounds.proofs.Climb.{round-some}
-use Rattle.rounds.proofs.Marks.{shown-pointer}
 use Rattle.rounds.proofs.Demand3.{demand-3}
 
 -- what says the same in every scan says the same in turn
@@ -101,36 +96,3 @@ pub as-the-source-has-it : (κs : _) (a : _) (r : Verdict) (s : _) → packed-re
     → LeavesTwo (scan-verdict (now (a .0)) (length (now (a .1 .0))) (length (now (a .1 .1 .0)))) (scan-table (now (a .0)) (now (a .1 .0)) (length (now (a .1 .1 .0)))) (scan-packed (now (a .0)) (now (a .1 .0)) (now (a .1 .1 .0)))
     r (now (s .1 .0)) (now (s .1 .1 .0))
 as-the-source-has-it κs a r s p = p
-
--- ---- several scans in one call: the block's entries in the lists
-pub entry-shows : (net : Network) (t : List ℕ) (m i : ℕ) {numbers : List ℕ} (more : List ℕ) → i < block-count net → numbers ≡ scans-outputs net t m ++ more
-    → (j : ℕ) → j < m → unpacked (getD numbers (j * block-count net + i) 0) ≡ getD (scanned net (scans-table net t j) .outs) i no-outputs
-entry-shows net t m i more there outs j l =
-    let room = next-room j m (block-count net) (m * block-count net) l (omega arith) in
-    ap (λ (list : List ℕ). unpacked (getD list (j * block-count net + i) 0)) outs
-    ∙ ap unpacked
-    (List·getD-append (scans-outputs net t m) more 0 (j * block-count net + i) (omega (arith, room, outputs-count net m t))
-    ∙ output-entry net j m i t l there)
-    ∙ unpack-pack (getD (scanned net (scans-table net t j) .outs) i no-outputs)
-
-module _ (net : Network) (t : List ℕ) (m i : ℕ) (numbers marks more others : List ℕ) (G : GoodNetwork net) (there : i < block-count net) (compares : block-of net i .kind ≡ 5)
-    (outs : numbers ≡ scans-outputs net t m ++ more) (points : marks ≡ scans-pointers net t m ++ others) where
-  entry-reads : (j : ℕ) → j < m → entry-read net i numbers marks j ≡ report net i (scans-table net t j)
-  entry-reads j l =
-      let room = next-room j m (block-count net) (m * block-count net) l (omega arith) in
-      ap₂ (λ (p : Outputs) (x : ℕ). cond (p .middle) (some x) none)
-      (entry-shows net t m i more there outs j l)
-      (ap (λ (list : List ℕ). getD list (j * block-count net + i) 0) points
-      ∙ List·getD-append (scans-pointers net t m) others 0 (j * block-count net + i) (omega (arith, room, pointers-count net m t))
-      ∙ pointer-entry net j m i t l there
-      ∙ shown-pointer net G i there compares (scans-table net t j))
-
-pub demand-3-scans : Demand3Scans
-demand-3-scans ws t left times outputs pointers numbers marks answer s ok i S j l =
-    let net : Network = network-in ws in
-    let h : scans-verdict ws (length t) times (length outputs) (length pointers) .number ≡ 0 = sym (ap (λ (v : Verdict). v .number) (s .answers)) ∙ ok in
-    let G : GoodNetwork net = accepted-good ws (scans-checks ws t times (length outputs) (length pointers) h) in
-    as-read (record { accepted = G; right-size = λ k u. scans-exact net G k t (scans-exact-table ws t times (length outputs) (length pointers) h) }) S
-    (entry-read net i numbers marks)
-    (entry-reads net t times i numbers marks _ _ G (S .there) (S .compares)
-    (s .leaves-other ∙ done-packed ws t outputs times (length pointers) h) (s .leaves-last ∙ done-pointed ws t pointers times (length outputs) h)) j l

@@ -1,21 +1,17 @@
 -- MBIT's middle lamp: what is true of a block in its turn is carried to the scan's outputs, to what the calls leave and to what the bench
 -- prints. Assumes nothing.
-use mathlib.Core.Path.{_≡_, sym, ap, _∙_}
-use Prim.Native.Nat.{ℕ}
-use lib.ListN.{length, getD}
-use Rattle.verdict.specs.declared.Verdict.{Verdict}
+use mathlib.Core.Path.{ap, _∙_}
 use Rattle.words.specs.Words.{words-in, odd-byte}
-use Rattle.network.specs.Network.{Network, block-of}
+use Rattle.network.specs.Network.{block-of}
 use Rattle.network.specs.Check.{network-in}
 use Rattle.file.specs.File.{File, file-in}
 use Rattle.blocks.specs.declared.Outputs.{Outputs}
 use Rattle.blocks.proofs.Modified.{middle-follows}
-use Rattle.scan.specs.Scans.{scans-table, scans-verdict}
-use Rattle.scan.proofs.Kept.{done-packed}
+use Rattle.scan.specs.Scans.{scans-table}
 use Rattle.rounds.specs.Demand3.{visit, power-at}
-use Rattle.rounds.specs.Lamp.{LampScanned, LampRecords, LampPacked, LampScans, LampPrinted}
+use Rattle.rounds.specs.Lamp.{LampScanned, LampRecords, LampPacked, LampPrinted}
 use Rattle.rounds.proofs.Visits.{own-output}
-use Rattle.rounds.proofs.Called.{records-show, numbers-show, entry-shows}
+use Rattle.rounds.proofs.Called.{records-show, numbers-show}
 use Rattle.rounds.proofs.Printed.{said-count, said-lit}
 
 pub lamp-scanned : LampScanned
@@ -32,14 +28,6 @@ pub lamp-packed : LampPacked
 lamp-packed ws i m lent left lists numbers answers K M j l =
     ap (λ (out : Outputs). out .middle) (numbers-show ws i m lent left lists numbers answers K (M .there) j l)
     ∙ lamp-scanned (network-in ws) i M (lent j)
-
-pub lamp-scans : LampScans
-lamp-scans ws t left times outputs pointers numbers marks answer s ok i M j l =
-    let net : Network = network-in ws in
-    let h : scans-verdict ws (length t) times (length outputs) (length pointers) .number ≡ 0 = sym (ap (λ (v : Verdict). v .number) (s .answers)) ∙ ok in
-    ap (λ (out : Outputs). out .middle)
-    (entry-shows net t times i _ (M .there) (s .leaves-other ∙ done-packed ws t outputs times (length pointers) h) j l)
-    ∙ lamp-scanned net i M (scans-table net t j)
 
 pub lamp-printed : LampPrinted
 lamp-printed bytes fine i M =

@@ -7,8 +7,7 @@ use mathlib.Core.Option.{Option, none, some}
 use Prim.Native.Nat.{ℕ, zero, suc, _+_, _-_, _≤_, _<_}
 use native.Mathlib.Omega.{arith}
 use borrow.Author.Tests.{eq-eqb}
-use lib.Dec.{eqb}
-use lib.ListN.{length, getD, take, drop}
+use lib.ListN.{length, getD, take, drop, replicate, length-replicate}
 use Rattle.words.specs.Words.{words-in, odd-byte}
 use Rattle.network.specs.Network.{Network, block-of, block-count}
 use Rattle.network.specs.Sound.{GoodNetwork}
@@ -21,8 +20,9 @@ use Rattle.blocks.specs.Answer.{no-outputs}
 use Rattle.scan.specs.Scan.{scanned}
 use Rattle.scan.specs.Scans.{scan-pointers, scans-table}
 use Rattle.scan.proofs.Repeating.{scans-exact}
-use Rattle.lines.specs.Text.{decimal, pointer-field, refusal-line}
-use Rattle.run.specs.Bench.{scan-lines, scans-lines, file-text, words-text}
+use Rattle.text.specs.Text.{decimal, pointer-field, head-line, end-line, refusal-line}
+use Rattle.run.specs.Bench.{file-text, words-text}
+use Rattle.run.proofs.ByScans.{scan-lines, scans-lines, run-by-scans}
 use Rattle.rounds.specs.Demand3.{report, register-in, done-by, Steady, Scanning, in-turn, round-at, RoundAt}
 use Rattle.rounds.specs.Bench.{number-in, text-says, Demand3Bench}
 use Rattle.rounds.specs.Lamp.{lit}
@@ -129,11 +129,18 @@ module _ (ws : List ℕ) (odd : Bool) (fine : file-checked ws odd .number ≡ 0)
     says : ℕ → Option ℕ
     says j = entry net i there (good .few) (given j)
 
-    -- the text of the file
+    -- the text of the file, scan by scan
+    by-scans : file-text f ≡ head-line (block-count net) (table-words f) ++ scans-lines net (f .image) 1 (f .run) ++ end-line (f .run)
+    unfolding file-text
+    by-scans =
+        ap (λ (x : List ℕ). head-line (block-count net) (table-words f) ++ x ++ end-line (f .run))
+        (run-by-scans net good (f .image) (replicate (block-count net) 0) (sound .file .image) (length-replicate (block-count net) 0) (f .run))
+
     text-is : text-says (i + 1) (words-text ws odd) ≡ in-turn says 0 (f .run)
-    unfolding words-text file-text says
+    unfolding words-text says
     text-is =
         ap (λ (a : Bool). text-says (i + 1) (cond a (file-text f) (refusal-line (file-checked ws odd)))) (eq-eqb (file-checked ws odd .number) 0 fine)
+        ∙ ap (text-says (i + 1)) by-scans
         ∙ all-told
         (tells-both
         (tells-both (head-tells (i + 1) (block-count net) (table-words f)) (all-scans net i there (good .few) (f .image) 1 (f .run)))

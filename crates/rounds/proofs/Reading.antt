@@ -12,8 +12,8 @@ use lib.Dec.{eqb}
 use lib.ListN.{length, getD}
 use Rattle.blocks.specs.declared.Outputs.{Outputs}
 use Rattle.blocks.specs.Kind.{has-pointer}
-use Rattle.lines.specs.Text.{places, digits, decimal, field, digit, output-fields, pointer-field, line, head-line, end-line}
-use Rattle.lines.proofs.Decimal.{as-the-kit}
+use Rattle.text.specs.Text.{places, digits, decimal, field, digit, output-fields, pointer-field, line, head-line, end-line}
+use Rattle.text.proofs.Decimal.{as-the-kit}
 use Rattle.rounds.specs.Bench.{onto, parted, number-from, number-in, fields-say, line-says, text-says}
 
 -- ---- how often a byte stands in a text

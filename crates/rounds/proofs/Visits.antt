@@ -2,14 +2,13 @@
 -- its own pointer step leaves its matrices as they were. Assumes nothing.
 use mathlib.Core.Path.{_≡_, refl, sym, ap, ap₂, _∙_, subst}
 use mathlib.Core.Bool.{Bool, cond, xor}
-use mathlib.Core.List.{List, [], _∷_, _++_}
+use mathlib.Core.List.{List, [], _∷_}
 use mathlib.Core.Logic.{_⊎_, inl, inr, ⊎-elim}
 use mathlib.Core.Option.{Option, none, some}
-use Prim.Native.Nat.{ℕ, zero, suc, _+_, _-_, _*_, _≤_, _<_}
+use Prim.Native.Nat.{ℕ, suc, _+_, _-_, _*_, _≤_, _<_}
 use native.Mathlib.Omega.{arith}
 use lib.Dec.{eqb, ltb}
-use lib.ListN.{length, getD, List·getD-append}
-use lib.Seq.{getD-append-add}
+use lib.ListN.{length, getD}
 use Rattle.bits.specs.Bit.{bit}
 use Rattle.pointer.specs.declared.Pointer.{Pointer}
 use Rattle.runs.specs.Run.{run, placed}
@@ -29,45 +28,19 @@ use Rattle.blocks.specs.Effect.{Effect, idle, into, zeroed, found, compare, eff
 use Rattle.blocks.specs.Work.{pointer-node, matrix-put, change-put, one-word, effect-on, block-outputs}
 use Rattle.blocks.proofs.Puts.{run-bits, word-inside, bit-outside}
 use Rattle.blocks.proofs.Written.{coils-spare-word}
-use Rattle.inputs.specs.Input.{power-on}
 use Rattle.blocks.specs.Answer.{no-outputs}
-use Rattle.scan.specs.Scan.{State, step, scanned}
+use Rattle.scan.specs.Scan.{step, scanned}
 use Rattle.rounds.specs.Demand3.{visit, power-at, source-in, matrix-in, register-index, register-in, source-found, matrix-found, after-step, done-by, report, SameBits, Steady, Scanning}
 use Rattle.scan.proofs.Kept.{exact-after}
-use Rattle.scan.proofs.Scanning.{after, after-next, after-all, outs-count}
+use Rattle.scan.proofs.Own.{own-output as scan-output}
+use Rattle.scan.proofs.Scanning.{after}
 use Rattle.rounds.proofs.Climb.{from, ends, ends-low, found as finds}
 
 -- ---- the block's own output among the scan's
-abbrev own : Network → List ℕ → ℕ → Outputs
-own net t i =
-    block-outputs net (block-of net i) (after net t i .table)
-    (power-on net (after net t i .table) (after net t i .outs) (block-of net i .inputs))
-
-own-after : (net : Network) (t : List ℕ) (i r : ℕ) → suc i + r ≤ block-count net → getD (after net t (suc i + r) .outs) i no-outputs ≡ own net t i
-unfolding step
-own-after net t i zero u =
-    let n : suc i + 0 ≡ suc i = omega arith in
-    let l : length (after net t i .outs) ≡ i = outs-count net t i (omega arith) in
-    let z : i ≡ length (after net t i .outs) + 0 = omega (arith, l) in
-    ap (λ (k : ℕ). getD (after net t k .outs) i no-outputs) n
-    ∙ ap (λ (s : State). getD (s .outs) i no-outputs) (after-next net t i (omega arith))
-    ∙ ap (λ (k : ℕ). getD (after net t i .outs ++ own net t i ∷ []) k no-outputs) z
-    ∙ getD-append-add (after net t i .outs) (own net t i ∷ []) 0 no-outputs
-own-after net t i (suc r) u =
-    let n : suc i + suc r ≡ suc (suc i + r) = omega arith in
-    ap (λ (k : ℕ). getD (after net t k .outs) i no-outputs) n
-    ∙ ap (λ (s : State). getD (s .outs) i no-outputs) (after-next net t (suc i + r) (omega arith))
-    ∙ List·getD-append (after net t (suc i + r) .outs) (own net t (suc i + r) ∷ []) no-outputs i (omega (arith, outs-count net t (suc i + r) (omega arith)))
-    ∙ own-after net t i r (omega arith)
-
 pub own-output : (net : Network) (t : List ℕ) (i : ℕ) → i < block-count net
     → getD (scanned net t .outs) i no-outputs ≡ block-outputs net (block-of net i) (visit net i t .table) (power-at net i t)
 unfolding after
-own-output net t i l =
-    let n : block-count net ≡ suc i + (block-count net - suc i) = omega (arith, l) in
-    ap (λ (s : State). getD (s .outs) i no-outputs) (sym (after-all net t))
-    ∙ ap (λ (k : ℕ). getD (after net t k .outs) i no-outputs) n
-    ∙ own-after net t i (block-count net - suc i) (omega arith)
+own-output net t i l = scan-output net t i l
 
 -- ---- one word put
 module _ (t : List ℕ) (p x : ℕ) (h : p < length t) where

@@ -29,9 +29,10 @@ use Rattle.blocks.specs.Kind.{kind-of}
 use Rattle.blocks.specs.Work.{block-outputs, block-table}
 use Rattle.inputs.specs.Input.{passes}
 use Rattle.scan.specs.Scan.{step, steps, scanned}
-use Rattle.scan.specs.Scans.{pointer-of, pointers-after, scans-table}
-use Rattle.lines.specs.Text.{places, digits, decimal, pointer-field, line, head-line, end-line, refusal-line}
-use Rattle.run.specs.Bench.{scan-lines, scans-lines, file-text, words-text, bench-text}
+use Rattle.scan.specs.Scans.{pointer-of, scans-table}
+use Rattle.text.specs.Text.{places, digits, decimal, pointer-field, line, head-line, end-line, refusal-line}
+use Rattle.run.specs.Visits.{visited, visit-line, visits-state, visits-lines}
+use Rattle.run.specs.Bench.{file-text, words-text, bench-text}
 use Rattle.scan.proofs.Repeating.{table-next}
 use Rattle.words.specs.Words.{words-from, words-in, odd-byte}
 use Rattle.file.specs.File.{File, image-section, run-section, file-in, file-checked}
@@ -292,8 +293,8 @@ example-says = refl
 
 -- and these are the lines that its bytes print
 pub example-prints : bench-text example-bytes ≡ example-text
-unfolding read-as words-text file-text scans-lines scan-lines line pointer-field head-line end-line refusal-line decimal digits places
-    scans-table pointers-after pointer-of kind-of step steps passes block-table block-outputs first reset in-range start-of matrix-of value bit xor
+unfolding read-as words-text file-text visits-lines visits-state visit-line visited line pointer-field head-line end-line refusal-line decimal digits places
+    pointer-of kind-of passes block-table block-outputs first reset in-range start-of matrix-of value bit xor
 example-prints = refl
 
 -- the same compare on a Level 2 machine: count 5, and level 2 after the sizes
@@ -304,6 +305,6 @@ example-at-two =
     ∷ 0 ∷ 0 ∷ 0 ∷ 0 ∷ 0 ∷ 0 ∷ 0 ∷ 3 ∷ 128 ∷ 1 ∷ 0 ∷ 0 ∷ 0 ∷ 0 ∷ 0 ∷ 1 ∷ 0 ∷ 4 ∷ []
 
 pub two-prints : bench-text example-at-two ≡ example-text
-unfolding read-as words-text file-text scans-lines scan-lines line pointer-field head-line end-line refusal-line decimal digits places
-    scans-table pointers-after pointer-of kind-of step steps passes block-table block-outputs first reset in-range start-of matrix-of value bit xor
+unfolding read-as words-text file-text visits-lines visits-state visit-line visited line pointer-field head-line end-line refusal-line decimal digits places
+    pointer-of kind-of passes block-table block-outputs first reset in-range start-of matrix-of value bit xor
 two-prints = refl

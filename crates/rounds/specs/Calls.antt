@@ -1,6 +1,6 @@
--- Demand 3 for the calls: what a caller reads after m successive calls of a scan, or after one call of several scans. A call is known by
--- its contract alone, and between two calls the caller may do anything that the premises allow. Assumes nothing.
-use Prim.Native.Nat.{ℕ, _+_, _*_, _≤_, _<_}
+-- Demand 3 for the calls: what a caller reads after m successive calls of a scan. A call is known by its contract alone, and between two
+-- calls the caller may do anything that the premises allow. Assumes nothing.
+use Prim.Native.Nat.{ℕ, _+_, _≤_, _<_}
 use mathlib.Core.Path.{_≡_}
 use mathlib.Core.Bool.{cond}
 use mathlib.Core.List.{List, map}
@@ -8,14 +8,13 @@ use mathlib.Core.Option.{Option, none, some}
 use lib.ListN.{length, getD}
 use Rattle.verdict.specs.Lists.{Words, Table}
 use Rattle.verdict.specs.declared.Verdict.{Verdict}
-use Rattle.verdict.specs.Promise.{LeavesTwo, LeavesThree}
-use Rattle.network.specs.Network.{Network, block-count}
+use Rattle.verdict.specs.Promise.{LeavesTwo}
+use Rattle.network.specs.Network.{Network}
 use Rattle.network.specs.Check.{network-in}
 use Rattle.blocks.specs.declared.Outputs.{Outputs}
 use Rattle.blocks.specs.Answer.{no-outputs}
 use Rattle.blocks.specs.Packed.{unpacked}
 use Rattle.scan.specs.Scan.{scan-verdict, scan-table, scan-packed}
-use Rattle.scan.specs.Scans.{scans-table, scans-verdict, scans-left, scans-packed, scans-pointed}
 use Rattle.outputs.specs.Records.{Recorded}
 use Rattle.rounds.specs.Demand3.{register-in, done-by, Steady, in-turn, round-at, RoundAt}
 
@@ -52,18 +51,3 @@ Demand3Packed =
     PackedCalls ws m lent left lists numbers answers → let net = network-in ws in
     Steady net i m lent → PointerKept net i m lent left → (j : ℕ) → j + round-at net i lent j ≤ m →
     RoundAt net i lent j (in-turn (λ s. reading net i (left s) (map unpacked (numbers s))) j (round-at net i lent j))
-
--- ---- one call of `scans`: the entries of the block in the lists of outputs and of pointers, one for each scan
-abbrev pub entry-read : Network → ℕ → List ℕ → List ℕ → ℕ → Option ℕ
-entry-read net i numbers pointers s =
-    cond (unpacked (getD numbers (s * block-count net + i) 0) .middle) (some (getD pointers (s * block-count net + i) 0)) none
-
-abbrev pub Demand3Scans : Type 0
-Demand3Scans =
-    (ws : Words) (t left : Table) (times : ℕ) (outputs pointers numbers marks : List ℕ) (answer : Verdict) →
-    LeavesThree
-    (scans-verdict ws (length t) times (length outputs) (length pointers)) (scans-left ws t times (length outputs) (length pointers))
-    (scans-packed ws t times outputs (length pointers)) (scans-pointed ws t times (length outputs) pointers)
-    answer left numbers marks → answer .number ≡ 0 →
-    let net = network-in ws in (i : ℕ) → Steady net i times (scans-table net t) → (j : ℕ) → j + round-at net i (scans-table net t) j ≤ times →
-    RoundAt net i (scans-table net t) j (in-turn (entry-read net i numbers marks) j (round-at net i (scans-table net t) j))

@@ -1,6 +1,6 @@
 -- MBIT's middle lamp (document 02, ticket 2): of a scan, of the calls, and of what the bench prints. With power on top the middle output of an
 -- MBIT equals its middle input, for pointer 0 and over 16n too; without power it is off. Assumes nothing.
-use Prim.Native.Nat.{ℕ, _+_, _*_, _<_}
+use Prim.Native.Nat.{ℕ, _+_, _<_}
 use mathlib.Core.Path.{_≡_}
 use mathlib.Core.Bool.{Bool, true, false, _&&_}
 use mathlib.Core.List.{List, map}
@@ -8,7 +8,6 @@ use mathlib.Core.Option.{Option, none, some}
 use lib.ListN.{length, getD}
 use Rattle.verdict.specs.Lists.{Words, Table, Bytes}
 use Rattle.verdict.specs.declared.Verdict.{Verdict}
-use Rattle.verdict.specs.Promise.{LeavesThree}
 use Rattle.network.specs.Network.{Network, block-of, block-count}
 use Rattle.network.specs.Check.{network-in}
 use Rattle.blocks.specs.declared.Outputs.{Outputs}
@@ -17,7 +16,7 @@ use Rattle.blocks.specs.Packed.{unpacked}
 use Rattle.words.specs.Words.{words-in, odd-byte}
 use Rattle.file.specs.File.{file-in, file-checked}
 use Rattle.scan.specs.Scan.{scanned}
-use Rattle.scan.specs.Scans.{scans-table, scans-verdict, scans-left, scans-packed, scans-pointed}
+use Rattle.scan.specs.Scans.{scans-table}
 use Rattle.run.specs.Bench.{bench-text}
 use Rattle.rounds.specs.Demand3.{power-at}
 use Rattle.rounds.specs.Calls.{RecordCalls, PackedCalls}
@@ -49,17 +48,6 @@ LampPacked =
     (ws : Words) (i m : ℕ) (lent left : ℕ → Table) (lists numbers : ℕ → List ℕ) (answers : ℕ → Verdict) →
     PackedCalls ws m lent left lists numbers answers → let net = network-in ws in
     Modifies net i → (j : ℕ) → j < m → getD (map unpacked (numbers j)) i no-outputs .middle ≡ lights net i (lent j)
-
--- one call of `scans`: the block's entry of each scan
-abbrev pub LampScans : Type 0
-LampScans =
-    (ws : Words) (t left : Table) (times : ℕ) (outputs pointers numbers marks : List ℕ) (answer : Verdict) →
-    LeavesThree
-    (scans-verdict ws (length t) times (length outputs) (length pointers)) (scans-left ws t times (length outputs) (length pointers))
-    (scans-packed ws t times outputs (length pointers)) (scans-pointed ws t times (length outputs) pointers)
-    answer left numbers marks → answer .number ≡ 0 →
-    let net = network-in ws in (i : ℕ) → Modifies net i → (j : ℕ) → j < times →
-    unpacked (getD numbers (j * block-count net + i) 0) .middle ≡ lights net i (scans-table net t j)
 
 -- ---- what the bench prints
 

@@ -1,18 +1,22 @@
 -- The laws of a record's faults, case by case. Assumes nothing.
 use mathlib.Core.Path.{_≡_, refl, ap, ap₂, _∙_}
 use mathlib.Core.Bool.{Bool, true, false, cond}
-use Prim.Native.Nat.{ℕ, _*_, _≤_, _<_}
+use Prim.Native.Nat.{ℕ, _-_, _*_, _≤_, _<_}
+use native.Mathlib.Decide.{decLe}
+use native.Mathlib.Nat.{lt-of-not-le}
 use native.Mathlib.Omega.{arith}
 use borrow.Author.Tests.{le-leb, lt-leb, eq-eqb, ne-eqb}
 use lib.Dec.{leb, eqb}
-use lib.ListN.{length, List·getD-eq-default}
+use lib.ListN.{length, getD, List·getD-eq-default}
 use Rattle.section.specs.Walk.{word}
 use Rattle.section.specs.Limit.{counted, up-to}
+use Rattle.section.proofs.Limits.{below-count, above-count}
 use Rattle.table.specs.declared.sizes.Sizes.{Sizes}
 use Rattle.table.specs.Table.{reference-fault}
 use Rattle.record.specs.declared.Node.{Node}
 use Rattle.record.specs.declared.Input.{Input}
 use Rattle.record.specs.declared.Block.{Block}
+use Rattle.rules.specs.Rules.{rows, no-kind, rule}
 use Rattle.rules.specs.Fault.{constant-in, number-fault, input-fault, faults}
 
 -- ---- nodes and inputs
@@ -58,6 +62,17 @@ module _ (z : Sizes) (earlier : ℕ) (input : Input) where
   unfolding choose
   input-output l =
       by-code false false false (lt-leb (input .code) 1 (omega arith)) (lt-leb (input .code) 3 (omega arith)) (lt-leb (input .code) 5 l)
+
+-- a kind that is none of the eight has no row
+pub no-row : (k : ℕ) → ((i : ℕ) → 1 ≤ i → i ≤ 8 → k ≡ i → ⊥) → rule k ≡ no-kind
+unfolding rule
+no-row k h = elim (decLe 1 k) [
+  | no l ↦ ap (λ (b : Bool). cond b (getD rows (k - 1) no-kind) no-kind) (below-count 8 k (lt-of-not-le l))
+  | yes l ↦ elim (decLe k 8) [
+    | no u ↦ ap (λ (b : Bool). cond b (getD rows (k - 1) no-kind) no-kind) (above-count 8 k l (lt-of-not-le u))
+    | yes u ↦ absurd (h k l u refl)
+  ]
+]
 
 -- a record has 15 words
 pub faults-past : (z : Sizes) (earlier : ℕ) (b : Block) (q : ℕ) → 15 ≤ q → word (faults z earlier b) q ≡ 0

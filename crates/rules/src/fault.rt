@@ -14,7 +14,12 @@ use table::Sizes;
 use table::reference_fault;
 use verdict::Verdict;
 ghost use mathlib.Core.Path.{_≡_};
-ghost use Rattle.section.specs.Walk.{word};
+ghost use mathlib.Core.Bool.{true};
+ghost use Prim.Native.Nat.{ℕ, _+_, _≤_};
+ghost use lib.ListN.{take, drop};
+ghost use Rattle.section.specs.Walk.{word, seek};
+ghost use Rattle.section.specs.Limit.{up-to};
+ghost use Rattle.section.specs.Truths.{Clean};
 ghost use Rattle.rules.specs.Fault.{class-fault, number-fault, input-fault, top-words, faults, judged};
 ghost use Rattle.rules.specs.Rules.{rule};
 
@@ -98,27 +103,136 @@ fn word_fault(row: Rule, sizes: Sizes, earlier: usize, block: Block, q: usize) -
     }
 }
 
+// Whether a node earns nothing where it refers to so many words.
+fn node_clean(sizes: Sizes, classes: Classes, node: Node, words: u32) -> bool
+    ensures { λ r. ⌜ (r ≡ true → (class-fault classes (node .class) ≡ 0) × (number-fault sizes node words ≡ 0)) ⌝ }
+{
+    if class_fault(classes, node.class) != 0 {
+        return false;
+    }
+    number_fault(sizes, node, words) == 0
+}
+
+// Whether kind, length and nodes of a record earn nothing.
+fn nodes_clean(sizes: Sizes, block: Block) -> bool
+    ensures { λ r. ⌜ (r ≡ true → (earlier : ℕ) → Clean (take 6 (faults sizes earlier block))) ⌝ }
+{
+    let row = rule_of(block.kind);
+    let n = block.n;
+    if counted(8, block.kind as usize, 4) != 0 {
+        return false;
+    }
+    if counted(at_level(row.most, sizes.level) as usize, n as usize, 5) != 0 {
+        return false;
+    }
+    if !node_clean(sizes, row.top, block.top, top_words(row.pointer, n) as u32) {
+        return false;
+    }
+    node_clean(sizes, row.middle, block.middle, n as u32 + row.extra as u32)
+}
+
+// Whether an input earns nothing.
+fn input_clean(sizes: Sizes, earlier: usize, input: Input) -> bool
+    ensures { λ r. ⌜ (r ≡ true → (up-to 8 (input .code) 9 ≡ 0) × (input-fault sizes earlier input ≡ 0)) ⌝ }
+{
+    let code = input.code;
+    if code <= 1 {
+        return input.number == 0;
+    }
+    if 8 < code {
+        return false;
+    }
+    input_fault(sizes, earlier, input) == 0
+}
+
+// Whether the inputs of a record do.
+fn inputs_clean(sizes: Sizes, earlier: usize, block: Block) -> bool
+    ensures { λ r. ⌜ (r ≡ true → Clean (take 6 (drop 6 (faults sizes earlier block)))) ⌝ }
+{
+    let inputs = block.inputs;
+    if !input_clean(sizes, earlier, inputs.top) {
+        return false;
+    }
+    if !input_clean(sizes, earlier, inputs.middle) {
+        return false;
+    }
+    input_clean(sizes, earlier, inputs.bottom)
+}
+
+// Whether the coils of a record do.
+fn coils_clean(sizes: Sizes, block: Block) -> bool
+    ensures { λ r. ⌜ (r ≡ true → (earlier : ℕ) → Clean (drop 12 (faults sizes earlier block))) ⌝ }
+{
+    let coils = block.coils;
+    let most = 16 * sizes.coils as usize;
+    if up_to(most, coils.top as usize, 10) != 0 {
+        return false;
+    }
+    if up_to(most, coils.middle as usize, 10) != 0 {
+        return false;
+    }
+    up_to(most, coils.bottom as usize, 10) == 0
+}
+
+// Whether all 15 words of a record earn nothing, as in most records: straight tests are cheaper than a walk.
+fn clean(sizes: Sizes, earlier: usize, block: Block) -> bool
+    ensures { λ r. ⌜ (r ≡ true → Clean (faults sizes earlier block)) ⌝ }
+{
+    if !nodes_clean(sizes, block) {
+        return false;
+    }
+    if !inputs_clean(sizes, earlier, block) {
+        return false;
+    }
+    coils_clean(sizes, block)
+}
+
+// The first refusal of a record of which q words have passed, word by word. It calls itself, so that this walk, which few records
+// need, is compiled apart from `judged`.
+fn first_refusal(
+    row: Rule,
+    sizes: Sizes,
+    earlier: usize,
+    block: Block,
+    at: u32,
+    size: usize,
+    q: usize,
+) -> Verdict
+    requires { ⌜
+        (row ≡ rule (block .kind)) × (q ≤ 15)
+        × (seek (drop q (faults sizes earlier block)) size (at + q) ≡ judged sizes earlier block at size) ⌝ }
+    ensures { λ r. ⌜ r ≡ judged sizes earlier block at size ⌝ }
+{
+    if 15 <= q {
+        return Verdict {
+            number: 0,
+            place: 0,
+        };
+    }
+    let i = at as usize + q;
+    let place = i + 1;
+    if size <= i {
+        return Verdict { number: 1, place };
+    }
+    let number = word_fault(row, sizes, earlier, block, q);
+    if number != 0 {
+        return Verdict { number, place };
+    }
+    first_refusal(row, sizes, earlier, block, at, size, q + 1)
+}
+
 // The first refusal among the 15 words of a record that so many blocks are before; the words stand from index `at` on among so
 // many words. 1 at a word that is missing.
 pub fn judged(sizes: Sizes, earlier: usize, block: Block, at: u32, size: usize) -> Verdict
     ensures { λ r. ⌜ r ≡ judged sizes earlier block at size ⌝ }
 {
-    let row = rule_of(block.kind);
-    let mut q = 0;
-    while q < 15 {
-        let i = at as usize + q;
-        let place = i + 1;
-        if size <= i {
-            return Verdict { number: 1, place };
+    if at as usize + 15 <= size {
+        if clean(sizes, earlier, block) {
+            return Verdict {
+                number: 0,
+                place: 0,
+            };
         }
-        let number = word_fault(row, sizes, earlier, block, q);
-        if number != 0 {
-            return Verdict { number, place };
-        }
-        q += 1;
     }
-    Verdict {
-        number: 0,
-        place: 0,
-    }
+    first_refusal(rule_of(block.kind), sizes, earlier, block, at, size, 0)
 }

@@ -109,18 +109,22 @@ const NO_KIND: Rule = Rule {
 // AND, OR, XOR, COMP, CMPR, MBIT, SENS, BROT.
 const RULES: [Rule; 8] = [LOGIC, LOGIC, LOGIC, LOGIC, COMPARE, MODIFY, SENSE, LOGIC];
 
-// The row of a kind.
+// The row of a kind. (The table at a variable index would be laid on the stack anew at every look.)
 pub(crate) fn rule_of(kind: u16) -> Rule
     ensures { λ r. ⌜ r ≡ rule kind ⌝ }
 {
-    if kind < 1 {
-        return NO_KIND;
+    let rows = RULES;
+    match kind {
+        1 => rows[0],
+        2 => rows[1],
+        3 => rows[2],
+        4 => rows[3],
+        5 => rows[4],
+        6 => rows[5],
+        7 => rows[6],
+        8 => rows[7],
+        _ => NO_KIND,
     }
-    if 8 < kind {
-        return NO_KIND;
-    }
-    let i = kind as usize - 1;
-    RULES[i]
 }
 
 // Whether a node may have a class.

@@ -8,7 +8,7 @@ use native.Mathlib.Omega.{arith}
 use borrow.Author.Tests.{ne-eqb}
 use lib.Dec.{eqb}
 use lib.ListN.{length, take}
-use lib.Seq.{take-all, getD-take, length-take-le}
+use lib.Seq.{take-all, take-take, getD-take, length-take-le}
 use Rattle.verdict.specs.declared.Verdict.{Verdict}
 use Rattle.section.proofs.Walk.{le-of-not-lt}
 use Rattle.words.specs.Words.{word-in, words-from, words-count, words-in, odd-byte}
@@ -17,8 +17,8 @@ use Rattle.file.specs.File.{file-in, file-checked}
 use Rattle.file.specs.Sound.{most-words}
 use Rattle.file.proofs.Accepted.{accepts-files, no-longer}
 use Rattle.file.proofs.Longer.{longer-same}
-use Rattle.lines.specs.Text.{refusal-line}
-use Rattle.run.specs.Bench.{file-text, words-text}
+use Rattle.text.specs.Text.{refusal-line}
+use Rattle.run.specs.Bench.{file-text, words-text, bench-text}
 use Rattle.run.specs.Calls.{most-bytes, FrontIsEnough}
 
 -- the first words, and the words of the first bytes
@@ -77,9 +77,12 @@ module _ (bytes : List ℕ) (long : most-bytes < length bytes) where
       ∙ ap refusal-line (sym same-verdict)
       ∙ sym (refused-text (words-in bytes) (odd-byte bytes) bad)
 
-pub front-is-enough : FrontIsEnough
+exactly-enough : (bytes : List ℕ) → bench-text (take most-bytes bytes) ≡ bench-text bytes
 unfolding front
-front-is-enough bytes = elim (decLt most-bytes (length bytes)) [
+exactly-enough bytes = elim (decLt most-bytes (length bytes)) [
   | yes l ↦ same-text bytes l
   | no l ↦ ap (λ (bs : List ℕ). words-text (words-in bs) (odd-byte bs)) (take-all most-bytes bytes (le-of-not-lt l))
 ]
+
+pub front-is-enough : FrontIsEnough
+front-is-enough bytes n l = sym (exactly-enough (take n bytes)) ∙ ap bench-text (take-take most-bytes n bytes l) ∙ exactly-enough bytes

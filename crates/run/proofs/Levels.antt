@@ -10,7 +10,7 @@ use Rattle.file.specs.File.{File, file-checked}
 use Rattle.file.specs.Sound.{one-later}
 use Rattle.file.proofs.Accepted.{accepted-done}
 use Rattle.file.proofs.Levels.{level-one}
-use Rattle.lines.specs.Text.{refusal-line}
+use Rattle.text.specs.Text.{refusal-line}
 use Rattle.run.specs.Bench.{file-text, words-text, LevelOnePrints}
 
 pub level-one-prints : LevelOnePrints

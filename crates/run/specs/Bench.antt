@@ -1,41 +1,31 @@
 -- What the bench prints (document 01, "The bench program"), for any bytes: the one line of a refusal, or the first line, the lines of
--- each scan, and the last line. Assumes nothing.
-use Prim.Native.Nat.{ℕ, zero, suc, _+_}
+-- the visits, and the last line. Assumes nothing.
+use Prim.Native.Nat.{ℕ, _*_}
 use mathlib.Core.Path.{_≡_}
 use mathlib.Core.Bool.{Bool, cond}
-use mathlib.Core.List.{[], _∷_, _++_}
+use mathlib.Core.List.{List, _∷_, _++_}
 use lib.Dec.{eqb}
-use lib.ListN.{getD}
-use Rattle.verdict.specs.Lists.{Words, Table, Bytes, Text}
+use lib.ListN.{replicate}
+use Rattle.verdict.specs.Lists.{Words, Bytes, Text}
 use Rattle.words.specs.Words.{words-in, odd-byte}
-use Rattle.network.specs.Network.{Network, block-count, block-of}
+use Rattle.network.specs.Network.{block-count}
 use Rattle.file.specs.File.{File, table-words, file-in, file-checked}
-use Rattle.blocks.specs.Answer.{no-outputs}
-use Rattle.scan.specs.Scan.{scanned}
-use Rattle.scan.specs.Scans.{scan-pointers, scans-table}
-use Rattle.lines.specs.Text.{pointer-field, line, head-line, end-line, refusal-line}
+use Rattle.text.specs.Text.{head-line, end-line, refusal-line}
+use Rattle.run.specs.Visits.{visits-lines}
 
--- the line of the block after the first i, in scan s, which is of table t
-abbrev pub block-line : Network → Table → ℕ → ℕ → Text
-block-line net t s i =
-    line s (i + 1) (getD (scanned net t .outs) i no-outputs) (pointer-field (block-of net i .kind) (getD (scan-pointers net t) i 0))
+-- how many visits a file's run has: one for each block in each scan
+abbrev pub visit-count : File → ℕ
+visit-count f = f .run * block-count (f .network)
 
--- of the first i blocks
-unfoldable pub scan-lines : Network → Table → ℕ → ℕ → Text
-unfolding line pointer-field
-scan-lines net t s zero = []
-scan-lines net t s (suc i) = scan-lines net t s i ++ block-line net t s i
+-- the state before the first: the image, and no output is on
+abbrev pub first-state : File → List ℕ
+first-state f = f .image ++ replicate (block-count (f .network)) 0
 
--- of j scans, scan s the first, each of the table that the one before left
-unfoldable pub scans-lines : Network → Table → ℕ → ℕ → Text
-unfolding scan-lines scans-table
-scans-lines net t s zero = []
-scans-lines net t s (suc j) = scans-lines net t s j ++ scan-lines net (scans-table net t j) (s + j) (block-count net)
-
--- a file: the first line, the lines of its scans, of which the first is of its image, the last line
+-- a file: the first line, the lines of its visits, the last line
 unfoldable pub file-text : File → Text
-unfolding scans-lines head-line end-line
-file-text f = head-line (block-count (f .network)) (table-words f) ++ scans-lines (f .network) (f .image) 1 (f .run) ++ end-line (f .run)
+unfolding visits-lines head-line end-line
+file-text f =
+    head-line (block-count (f .network)) (table-words f) ++ visits-lines (f .network) 0 (visit-count f) (first-state f) ++ end-line (f .run)
 
 -- words, after which an odd byte may stand
 unfoldable pub words-text : Words → Bool → Text

@@ -1,83 +1,92 @@
--- A call of the run: as many of a file's scans as have lines that fit into a lent buffer, from one scan on. Assumes nothing.
+-- A call of the run: as many of a file's visits as have lines that surely fit into a lent buffer, from one visit on. Assumes nothing.
 use Prim.Native.Nat.{ℕ, _+_, _-_, _*_, _/_}
 use mathlib.Core.Bool.{cond, false, _&&_}
-use mathlib.Core.List.{_++_}
+use mathlib.Core.List.{List, [], _++_}
 use lib.Dec.{leb, ltb, eqb}
 use lib.ListN.{length, drop}
-use Rattle.verdict.specs.Lists.{Words, Table, Text}
+use Rattle.verdict.specs.Lists.{Words, Text}
 use Rattle.verdict.specs.declared.Verdict.{Verdict}
 use Rattle.run.specs.declared.Went.{Went}
 use Rattle.verdict.specs.Verdict.{verdict, done, then}
 use Rattle.network.specs.Network.{block-count}
 use Rattle.file.specs.File.{File, table-words, file-in, file-checked}
-use Rattle.scan.specs.Scans.{scans-table}
-use Rattle.lines.specs.Text.{head-line, end-line, first-line, last-line, longest-line}
-use Rattle.run.specs.Bench.{scans-lines}
+use Rattle.text.specs.Text.{head-line, end-line, longest-line}
+use Rattle.run.specs.Visits.{visits-state, visits-lines}
+use Rattle.run.specs.Bench.{visit-count}
 
--- ---- how many scans
+-- ---- how many visits
 
--- the most lines of one call, beside the first and the last, and the bytes that those two may take
-abbrev pub most-at-once : ℕ
-most-at-once = 4096
+-- the bytes that the line of a visit may take in a run of at most 1000 scans, and those that the first line and the last may take
+abbrev pub visit-room : ℕ
+visit-room = 21
 
 abbrev pub ends : ℕ
 ends = 2 * longest-line
 
--- how many lines fit into so many bytes
-abbrev pub most-lines : ℕ → ℕ
-most-lines room = cond (ltb most-at-once ((room - ends) / longest-line)) most-at-once ((room - ends) / longest-line)
+-- the least room of a call: the two ends, and one visit between them
+abbrev pub least-room : ℕ
+least-room = ends + visit-room
 
--- how many scans: those that are left, or as many as have lines that fit; 0 where not one has
-unfoldable pub at-once : ℕ → ℕ → ℕ → ℕ
-at-once count room left =
-    cond (ltb room ends) 0
-    (cond (eqb count 0) left
-    (cond (ltb (most-lines room / count) left) (most-lines room / count) left))
+-- those that are left, or as many as have lines that surely fit
+unfoldable pub at-once : ℕ → ℕ → ℕ
+at-once room left = cond (ltb ((room - ends) / visit-room) left) ((room - ends) / visit-room) left
 
 abbrev pub many : File → ℕ → ℕ → ℕ
-many f from room = at-once (block-count (f .network)) room (f .run + 1 - from)
+many f from room = at-once room (visit-count f - from)
 
--- ---- the call, for a table of so many words and a buffer with so much room
+-- ---- the call, for a state of so many words and a buffer with so much room
 
--- the file's refusals, then 12 for a table that is not exactly the sum of the areas, a scan that is not 1 to the file's, or a
--- buffer with no room for its lines
+-- how many words a state has: the table's, and one for each block
+abbrev pub state-words : File → ℕ
+state-words f = table-words f + block-count (f .network)
+
+-- the file's refusals, then 12 for a state that has not exactly so many words, a visit that is past the file's, or a buffer with less
+-- than the least room
 unfoldable pub run-verdict : Words → ℕ → ℕ → ℕ → Verdict
-unfolding at-once
 run-verdict ws size from room =
     then (file-checked ws false)
-    (cond (eqb size (table-words (file-in ws)) && (leb 1 from && (leb from (file-in ws .run) && leb 1 (many (file-in ws) from room)))) done (verdict 12 0))
+    (cond (eqb size (state-words (file-in ws)) && (leb from (visit-count (file-in ws)) && leb least-room room)) done (verdict 12 0))
 
--- what m scans print, with the first line before scan 1 and the last after the file's last scan
-unfoldable pub run-lines : File → Table → ℕ → ℕ → Text
-unfolding scans-lines head-line end-line
-run-lines f t from m =
-    first-line from (block-count (f .network)) (table-words f)
-    ++ scans-lines (f .network) t from m
-    ++ last-line (from + m) (f .run)
+-- the first line stands before visit 0, the last line after the last visit
+abbrev pub first-line : File → ℕ → Text
+first-line f from = cond (eqb from 0) (head-line (block-count (f .network)) (table-words f)) []
+
+abbrev pub last-line : File → ℕ → Text
+last-line f next = cond (eqb next (visit-count f)) (end-line (f .run)) []
+
+-- what m visits print, with the first line before them and the last after them where they stand there
+unfoldable pub run-lines : File → List ℕ → ℕ → ℕ → Text
+unfolding visits-lines head-line end-line
+run-lines f state from m = first-line f from ++ visits-lines (f .network) from m state ++ last-line f (from + m)
 
 -- those of a call
-abbrev pub page : Words → Table → ℕ → ℕ → Text
-page ws t from room = run-lines (file-in ws) t from (many (file-in ws) from room)
+abbrev pub page : Words → List ℕ → ℕ → ℕ → Text
+page ws state from room = run-lines (file-in ws) state from (many (file-in ws) from room)
+
+-- where to go on: the visit after those that were made; past the last visit where the last line is put
+abbrev pub next-visit : File → ℕ → ℕ
+next-visit f next = cond (eqb next (visit-count f)) (next + 1) next
 
 abbrev pub went : Verdict → ℕ → ℕ → Went
 went v next bytes = record { verdict = v; next = next; bytes = bytes }
 
-unfoldable pub run-went : Words → Table → ℕ → ℕ → Went
+unfoldable pub run-went : Words → List ℕ → ℕ → ℕ → Went
 unfolding run-verdict run-lines at-once
-run-went ws t from room =
-    cond (eqb (run-verdict ws (length t) from room .number) 0)
-    (went done (from + many (file-in ws) from room) (length (page ws t from room)))
-    (went (run-verdict ws (length t) from room) from 0)
+run-went ws state from room =
+    cond (eqb (run-verdict ws (length state) from room .number) 0)
+    (went done (next-visit (file-in ws) (from + many (file-in ws) from room)) (length (page ws state from room)))
+    (went (run-verdict ws (length state) from room) from 0)
 
-unfoldable pub run-table : Words → Table → ℕ → ℕ → Table
-unfolding run-verdict scans-table at-once
-run-table ws t from room =
-    cond (eqb (run-verdict ws (length t) from room .number) 0) (scans-table (file-in ws .network) t (many (file-in ws) from room)) t
+unfoldable pub run-state : Words → List ℕ → ℕ → ℕ → List ℕ
+unfolding run-verdict visits-state at-once
+run-state ws state from room =
+    cond (eqb (run-verdict ws (length state) from room .number) 0)
+    (visits-state (file-in ws .network) from (many (file-in ws) from room) state) state
 
 -- the lines at the front; what stands after them stays
-unfoldable pub run-text : Words → Table → ℕ → Text → Text
+unfoldable pub run-text : Words → List ℕ → ℕ → Text → Text
 unfolding run-verdict run-lines at-once
-run-text ws t from text =
-    cond (eqb (run-verdict ws (length t) from (length text) .number) 0)
-    (page ws t from (length text) ++ drop (length (page ws t from (length text))) text)
+run-text ws state from text =
+    cond (eqb (run-verdict ws (length state) from (length text) .number) 0)
+    (page ws state from (length text) ++ drop (length (page ws state from (length text))) text)
     text

@@ -1,97 +1,119 @@
-// A run of a file's scans, some at a time: the scans on the table, and the lines that they print.
+// A run of a file's visits, some at a time: each block is visited and its line put at once.
 //
-// The call takes any words, any table and any buffer. It does its work, or it refuses with document 01's number and place and
-// changes nothing.
-mod scans;
+// The call takes any words, any state and any buffer. A state is the table and after it a word for each block, its outputs when it was
+// last visited, packed. The call does its work, or it refuses with document 01's number and place and changes nothing. It may stop between
+// any two blocks, and it says where to go on.
+mod visit;
+mod visits;
 
-use crate::scans::put_scans;
+use crate::visits::put_visits;
+use ends::put_end;
+use ends::put_head;
 use file::OpenedFile;
-use lines::LONGEST_LINE;
-use lines::put_end;
-use lines::put_head;
+use text::LONGEST_LINE;
 use verdict::Verdict;
 ghost use mathlib.Core.Path.{_≡_};
-ghost use Prim.Native.Nat.{_≤_};
+ghost use mathlib.Core.Bool.{cond};
+ghost use mathlib.Core.List.{[]};
+ghost use Prim.Native.Nat.{_+_, _≤_};
+ghost use lib.Dec.{eqb};
 ghost use lib.ListN.{length};
 ghost use Rattle.verdict.specs.Promise.{LeavesTwo};
-ghost use Rattle.run.specs.Page.{ends, most-lines, at-once, run-went, run-table, run-text};
+ghost use Rattle.text.specs.Text.{longest-line, head-line, end-line};
+ghost use Rattle.text.specs.Inner.{Put};
+ghost use Rattle.run.specs.Page.{ends, at-once, run-went, run-state, run-text};
 ghost use Rattle.run.specs.Inner.{Taken, Done};
 
-// The verdict, the scan to go on from, and how many bytes were put into the buffer.
+// The verdict, the visit to go on from, and how many bytes were put into the buffer. Past the last visit the run is at its end.
 pub struct Went {
     pub verdict: Verdict,
-    pub next: u16,
+    pub next: usize,
     pub bytes: usize,
 }
 
-// The most lines of one call.
-const MOST_LINES: usize = 4096;
+// The bytes that the line of a visit may take in a run of at most 1000 scans, and those that the first line and the last may take.
+const VISIT_ROOM: usize = 21;
 
-// The bytes that the first line and the last may take.
 const ENDS: usize = 2 * LONGEST_LINE;
 
-// How many lines fit into so many bytes, beside the first and the last.
-fn most_lines(room: usize) -> usize
-    requires { ⌜ ends ≤ room ⌝ }
-    ensures { λ r. ⌜ r ≡ most-lines room ⌝ }
-{
-    let lines = (room - ENDS) / LONGEST_LINE;
-    if MOST_LINES < lines {
-        return MOST_LINES;
-    }
-    lines
-}
+// The least room of a call.
+const LEAST_ROOM: usize = ENDS + VISIT_ROOM;
 
-// How many scans: those that are left, or as many as have lines that fit.
-fn at_once(count: u16, room: usize, left: u16) -> u16
-    ensures { λ r. ⌜ r ≡ at-once count room left ⌝ }
+// How many visits: those that are left, or as many as have lines that surely fit.
+fn at_once(room: usize, left: usize) -> usize
+    requires { ⌜ ends ≤ room ⌝ }
+    ensures { λ r. ⌜ r ≡ at-once room left ⌝ }
 {
-    if room < ENDS {
-        return 0;
-    }
-    if count == 0 {
-        return left;
-    }
-    let fit = most_lines(room) / count as usize;
-    if fit < left as usize {
-        return fit as u16;
+    let fit = (room - ENDS) / VISIT_ROOM;
+    if fit < left {
+        return fit;
     }
     left
 }
 
-// So many scans of a file that was checked before, and their lines at the front of the buffer; the answer is how many bytes.
-fn scan_and_print(
-    words: &[u16],
-    file: OpenedFile,
-    table: &mut [u16],
-    from: u16,
-    times: u16,
-    text: &mut [u8],
-) -> usize
-    requires { ⌜ Taken (now words) file (now table) from times (now text) ⌝ }
-    ensures { λ r. ⌜
-        Done (now (words .entry)) (now (table .entry)) from times (now (text .entry)) r (now (table .exit)) (now (text .exit)) ⌝ }
+// The first line, before visit 0.
+fn put_first(text: &mut [u8], from: usize, count: u16, table: u16) -> usize
+    requires { ⌜ longest-line ≤ length (now text) ⌝ }
+    ensures { λ r. ⌜ Put longest-line (now (text .entry)) 0 (cond (eqb from 0) (head-line count table) []) r (now (text .exit)) ⌝ }
 {
-    let o = file.network;
-    let end = o.next();
-    let network = &words[..end];
-    let mut outputs = [0u16; MOST_LINES];
-    let mut pointers = [0u16; MOST_LINES];
-    scan::scans(network, table, times, &mut outputs, &mut pointers);
-    let at = put_head(text, from, o.count(), file.words as u16);
-    let at = put_scans(text, at, network, o, from, times, &outputs, &pointers);
-    put_end(text, at, from + times, file.scans)
+    if from != 0 {
+        return 0;
+    }
+    put_head(text, count, table)
 }
 
-// As many of the file's scans as fit, from scan `from` on, on the table of its areas: their lines go to the front of the buffer,
-// with the first line before scan 1 and the last line after the file's last scan.
-pub fn run(words: &[u16], table: &mut [u16], from: u16, text: &mut [u8]) -> Went
+// The last line, after the last visit.
+fn put_last(text: &mut [u8], at: usize, next: usize, visits: usize, scans: u16) -> usize
+    requires { ⌜ at + longest-line ≤ length (now text) ⌝ }
+    ensures { λ r. ⌜ Put longest-line (now (text .entry)) at (cond (eqb next visits) (end-line scans) []) r (now (text .exit)) ⌝ }
+{
+    if next != visits {
+        return at;
+    }
+    put_end(text, at, scans)
+}
+
+// So many visits of a file that was checked before, and their lines at the front of the buffer, with the first line and the last where they
+// stand; the answer is how many bytes.
+fn put_page(
+    words: &[u16],
+    file: OpenedFile,
+    visits: usize,
+    state: &mut [u16],
+    from: usize,
+    many: usize,
+    text: &mut [u8],
+) -> usize
+    requires { ⌜ Taken (now words) file visits (now state) from many (now text) ⌝ }
+    ensures { λ r. ⌜
+        Done (now (words .entry)) (now (state .entry)) from many (now (text .entry)) r (now (state .exit)) (now (text .exit)) ⌝ }
+{
+    let count = file.network.count();
+    let size = file.words;
+    let at = put_first(text, from, count, size as u16);
+    let at = put_visits(
+        words,
+        file.network,
+        count as usize,
+        size,
+        state,
+        from,
+        many,
+        text,
+        at,
+    );
+    put_last(text, at, from + many, visits, file.scans)
+}
+
+// As many of the file's visits as surely fit, from visit `from` on, on a state: their lines go to the front of the buffer, with the first
+// line before visit 0 and the last line after the last visit.
+pub fn run(words: &[u16], state: &mut [u16], from: usize, text: &mut [u8]) -> Went
     ensures { λ r. ⌜
         LeavesTwo
-        (run-went (now (words .entry)) (now (table .entry)) from (length (now (text .entry))))
-        (run-table (now (words .entry)) (now (table .entry)) from (length (now (text .entry))))
-        (run-text (now (words .entry)) (now (table .entry)) from (now (text .entry)))
-        r (now (table .exit)) (now (text .exit)) ⌝ }
+        (run-went (now (words .entry)) (now (state .entry)) from (length (now (text .entry))))
+        (run-state (now (words .entry)) (now (state .entry)) from (length (now (text .entry))))
+        (run-text (now (words .entry)) (now (state .entry)) from (now (text .entry)))
+        r (now (state .exit)) (now (text .exit)) ⌝ }
 {
     let file = file::check(words, false);
     let verdict = file.verdict;
@@ -110,23 +132,30 @@ pub fn run(words: &[u16], table: &mut [u16], from: u16, text: &mut [u8]) -> Went
         next: from,
         bytes: 0,
     };
-    if table.len() != file.words {
+    let count = file.network.count() as usize;
+    let visits = file.scans as usize * count;
+    if state.len() != file.words + count {
         return short;
     }
-    if from < 1 {
+    if visits < from {
         return short;
     }
-    if file.scans < from {
+    if text.len() < LEAST_ROOM {
         return short;
     }
-    let times = at_once(file.network.count(), text.len(), file.scans + 1 - from);
-    if times < 1 {
-        return short;
+    let many = at_once(text.len(), visits - from);
+    let bytes = put_page(words, file, visits, state, from, many, text);
+    let next = from + many;
+    if next == visits {
+        return Went {
+            verdict,
+            next: next + 1,
+            bytes,
+        };
     }
-    let bytes = scan_and_print(words, file, table, from, times, text);
     Went {
         verdict,
-        next: from + times,
+        next,
         bytes,
     }
 }

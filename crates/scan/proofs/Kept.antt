@@ -26,11 +26,9 @@ use Rattle.blocks.proofs.Written.{same-long, inputs-stay as block-inputs-stay}
 use Rattle.inputs.specs.Input.{power-on}
 use Rattle.blocks.specs.Packed.{packed}
 use Rattle.scan.specs.Scan.{State, step, steps, scanned, scan-verdict, scan-table, scan-records, scan-packed}
-use Rattle.scan.specs.Scans.{scans-table, scans-outputs, scans-pointers, scans-verdict, scans-left, scans-packed, scans-pointed}
 use Rattle.scan.specs.Truths.{RefusalKeeps, ScanSameLong, ScanKeepsInputs}
 use Rattle.scan.proofs.Scanning.{after, after-next, after-all}
 use Rattle.scan.proofs.scan_packed.Reads as packed-reads
-use Rattle.scan.proofs.repeat.scans.Reads as scans-reads
 
 -- ---- a table of exactly the areas, with the inputs of another
 record Same (net : Network) (t u : List ℕ) : Type 0 where
@@ -113,22 +111,12 @@ module _ (ws t : List ℕ) (room : ℕ) where
   after-scan : scan-verdict ws (length t) room .number ≡ 0 → Same (network-in ws) t (scanned (network-in ws) t .table)
   after-scan h = all-kept (network-in ws) t (accepted h) (exact-table h)
 
--- several scans
-module _ (ws t : List ℕ) (times outputs pointers : ℕ) (h : scans-verdict ws (length t) times outputs pointers .number ≡ 0) where
-  pub scans-checks : checked ws .number ≡ 0
-  unfolding scans-verdict
-  scans-checks = then-first (checked ws) _ h
+-- the table that a scan leaves which is not refused
+pub done-table : (ws t : List ℕ) (room : ℕ) → scan-verdict ws (length t) room .number ≡ 0 → scan-table ws t room ≡ scanned (network-in ws) t .table
+unfolding scan-table
+done-table ws t room h = ap (λ (a : Bool). cond a (scanned (network-in ws) t .table) t) (eq-eqb (scan-verdict ws (length t) room .number) 0 h)
 
-  pub scans-exact-table : length t ≡ total (network-in ws .sizes)
-  unfolding scans-verdict
-  scans-exact-table =
-      go (eqb (length t) (total (network-in ws .sizes))) refl (leb (times * block-count (network-in ws)) outputs && leb (times * block-count (network-in ws)) pointers) (then-second (checked ws) _ h)
-    where
-      go : (a : Bool) → eqb (length t) (total (network-in ws .sizes)) ≡ a → (c : Bool) → cond (a && c) done (verdict 12 0) .number ≡ 0 → length t ≡ total (network-in ws .sizes)
-      go true e c q = eqb-true (length t) (total (network-in ws .sizes)) e
-      go false e c q = absurd (omega arith)
-
--- the outputs of a scan that is not refused
+-- its outputs
 pub done-outputs : (ws t outputs : List ℕ) → scan-verdict ws (length t) (length outputs) .number ≡ 0 → scan-packed ws t outputs ≡ map packed (scanned (network-in ws) t .outs) ++ drop (block-count (network-in ws)) outputs
 unfolding scan-packed
 done-outputs ws t outputs h =
@@ -146,7 +134,7 @@ pub table-kept : (ws t : List ℕ) (room : ℕ) → (scan-verdict ws (length t) 
 unfolding scan-table
 table-kept ws t room h = ap (λ (a : Bool). cond a (scanned (network-in ws) t .table) t) (ne-eqb (scan-verdict ws (length t) room .number) 0 h)
 
-numbers-kept : (ws t numbers : List ℕ) → (scan-verdict ws (length t) (length numbers) .number ≡ 0 → ⊥) → scan-packed ws t numbers ≡ numbers
+pub numbers-kept : (ws t numbers : List ℕ) → (scan-verdict ws (length t) (length numbers) .number ≡ 0 → ⊥) → scan-packed ws t numbers ≡ numbers
 unfolding scan-packed
 numbers-kept ws t numbers h =
     ap (λ (a : Bool). cond a (map packed (scanned (network-in ws) t .outs) ++ drop (block-count (network-in ws)) numbers) numbers)
@@ -184,41 +172,3 @@ inputs-stay ws t room p l u = go (eqb (scan-verdict ws (length t) room .number) 
     go : (a : Bool) → eqb (scan-verdict ws (length t) room .number) 0 ≡ a → bit (cond a (scanned (network-in ws) t .table) t) p ≡ bit t p
     go true e = after-scan ws t room (eqb-true (scan-verdict ws (length t) room .number) 0 e) .inputs p l u
     go false e = refl
-
--- what several scans that are not refused leave in the lists
-pub done-packed : (ws t outputs : List ℕ) (times pointers : ℕ) → scans-verdict ws (length t) times (length outputs) pointers .number ≡ 0
-    → scans-packed ws t times outputs pointers ≡ scans-outputs (network-in ws) t times ++ drop (times * block-count (network-in ws)) outputs
-unfolding scans-packed
-done-packed ws t outputs times pointers h =
-    ap (λ (a : Bool). cond a (scans-outputs (network-in ws) t times ++ drop (times * block-count (network-in ws)) outputs) outputs) (eq-eqb (scans-verdict ws (length t) times (length outputs) pointers .number) 0 h)
-
-pub done-pointed : (ws t pointers : List ℕ) (times outputs : ℕ) → scans-verdict ws (length t) times outputs (length pointers) .number ≡ 0
-    → scans-pointed ws t times outputs pointers ≡ scans-pointers (network-in ws) t times ++ drop (times * block-count (network-in ws)) pointers
-unfolding scans-pointed
-done-pointed ws t pointers times outputs h =
-    ap (λ (a : Bool). cond a (scans-pointers (network-in ws) t times ++ drop (times * block-count (network-in ws)) pointers) pointers) (eq-eqb (scans-verdict ws (length t) times outputs (length pointers) .number) 0 h)
-
--- ---- several scans that are refused keep everything, too
-module _ (ws t : List ℕ) (times : ℕ) where
-  none-left : (outputs pointers : ℕ) → (scans-verdict ws (length t) times outputs pointers .number ≡ 0 → ⊥) → scans-left ws t times outputs pointers ≡ t
-  unfolding scans-left
-  none-left outputs pointers h = ap (λ (a : Bool). cond a (scans-table (network-in ws) t times) t) (ne-eqb (scans-verdict ws (length t) times outputs pointers .number) 0 h)
-
-  none-packed : (outputs : List ℕ) (pointers : ℕ) → (scans-verdict ws (length t) times (length outputs) pointers .number ≡ 0 → ⊥) → scans-packed ws t times outputs pointers ≡ outputs
-  unfolding scans-packed
-  none-packed outputs pointers h =
-      ap (λ (a : Bool). cond a (scans-outputs (network-in ws) t times ++ drop (times * block-count (network-in ws)) outputs) outputs) (ne-eqb (scans-verdict ws (length t) times (length outputs) pointers .number) 0 h)
-
-  none-marked : (outputs : ℕ) (pointers : List ℕ) → (scans-verdict ws (length t) times outputs (length pointers) .number ≡ 0 → ⊥) → scans-pointed ws t times outputs pointers ≡ pointers
-  unfolding scans-pointed
-  none-marked outputs pointers h =
-      ap (λ (a : Bool). cond a (scans-pointers (network-in ws) t times ++ drop (times * block-count (network-in ws)) pointers) pointers) (ne-eqb (scans-verdict ws (length t) times outputs (length pointers) .number) 0 h)
-
-pub scans-keep-table : Keeps scans-reads.Post (λ κs v. v .number ≡ 0 → ⊥) (λ κs a. now (a .1 .0)) (λ κs s. now (s .1 .0))
-scans-keep-table κs a v s p h = p .leaves-one ∙ none-left _ _ _ _ _ (λ e. h (ap (λ (x : Verdict). x .number) (p .answers) ∙ e))
-
-pub scans-keep-outputs : Keeps scans-reads.Post (λ κs v. v .number ≡ 0 → ⊥) (λ κs a. now (a .1 .1 .1 .0)) (λ κs s. now (s .1 .1 .1 .0))
-scans-keep-outputs κs a v s p h = p .leaves-other ∙ none-packed _ _ _ _ _ (λ e. h (ap (λ (x : Verdict). x .number) (p .answers) ∙ e))
-
-pub scans-keep-pointers : Keeps scans-reads.Post (λ κs v. v .number ≡ 0 → ⊥) (λ κs a. now (a .1 .1 .1 .1 .0)) (λ κs s. now (s .1 .1 .1 .1 .0))
-scans-keep-pointers κs a v s p h = p .leaves-last ∙ none-marked _ _ _ _ _ (λ e. h (ap (λ (x : Verdict). x .number) (p .answers) ∙ e))

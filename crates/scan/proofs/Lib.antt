@@ -7,5 +7,6 @@ pub mod Packing
 pub mod Locating
 pub mod Repeating
 pub mod Scanning
+pub mod Own
 pub mod Verdicts
 pub mod Walking

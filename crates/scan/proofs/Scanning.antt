@@ -83,9 +83,6 @@ module _ (net : Network) (t : List ℕ) where
   pub all-outs-count : length (scanned net t .outs) ≡ block-count net
   all-outs-count = omega (arith, outs-long net (net .blocks) (fresh t))
 
-  pub all-marks-count : length (scan-pointers net t) ≡ block-count net
-  all-marks-count = pointers-long net (net .blocks) (fresh t)
-
 -- ---- an opening has the sizes and the count of the network
 module _ (ws : List ℕ) {o : Opened} (e : o ≡ opened ws) where
   pub sizes-are : o .sizes ≡ network-in ws .sizes

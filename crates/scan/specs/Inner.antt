@@ -1,6 +1,6 @@
--- What the contracts of the crate's own functions cite, beside the definitions that a caller reads: what a block of a checked network may
--- rely on. Assumes nothing.
-use Prim.Native.Nat.{ℕ, _+_, _*_, _≤_, _<_}
+-- What the contracts of the crate's own functions cite, beside the definitions that a caller reads: what a block of a checked network and
+-- a scan of it may rely on, and what they leave. Assumes nothing.
+use Prim.Native.Nat.{ℕ, _≤_, _<_}
 use mathlib.Core.Path.{_≡_}
 use mathlib.Core.List.{List, _++_, map}
 use lib.ListN.{length, getD, take, drop, set}
@@ -16,7 +16,7 @@ use Rattle.blocks.specs.Work.{block-outputs, block-table}
 use Rattle.blocks.specs.Packed.{packed, unpacked}
 use Rattle.blocks.specs.Truths.{Runs}
 use Rattle.inputs.specs.Input.{power-on}
-use Rattle.scan.specs.Scans.{pointer-of, scans-table, scans-outputs, scans-pointers}
+use Rattle.scan.specs.Scan.{scanned}
 
 -- ---- blocks
 
@@ -28,23 +28,20 @@ pub record Ready (net : Network) (one : Located) (t : Table) : Type 0 where
 
 -- ---- the scan
 
--- block k + 1 of a checked network, its table, and lists with an entry for it after those of the k earlier blocks of this scan, which
--- stand from an entry on
-pub record Next (net : Network) (one : Located) (t : Table) (outputs pointers : List ℕ) (first k : ℕ) : Type 0 where
+-- block k + 1 of a checked network, its table, and a list with an entry for it after those of the k earlier blocks
+pub record Next (net : Network) (one : Located) (t : Table) (outputs : List ℕ) (k : ℕ) : Type 0 where
   pub runs : Runs net k (one .block) t
   pub lies : one ≡ located net (one .block)
-  pub entry : first + k < length outputs
-  pub pointer-entry : first + k < length pointers
+  pub entry : k < length outputs
 
 -- the power on a block's inputs, where the outputs of the k earlier blocks are packed
-abbrev pub power-of : Network → Block → Table → List ℕ → ℕ → ℕ → Power
-power-of net b t outputs first k = power-on net t (map unpacked (take k (drop first outputs))) (b .inputs)
+abbrev pub power-of : Network → Block → Table → List ℕ → ℕ → Power
+power-of net b t outputs k = power-on net t (map unpacked (take k outputs)) (b .inputs)
 
--- the table that the block leaves, and its outputs and its pointer in their entries
-pub record Ran (net : Network) (one : Located) (first k : ℕ) (t outputs pointers table outputs-left pointers-left : List ℕ) : Type 0 where
-  pub table-after : table ≡ block-table net (one .block) t (power-of net (one .block) t outputs first k)
-  pub entry-after : outputs-left ≡ set outputs (first + k) (packed (block-outputs net (one .block) t (power-of net (one .block) t outputs first k)))
-  pub pointer-after : pointers-left ≡ set pointers (first + k) (pointer-of net (one .block) table)
+-- the table that the block leaves, and its outputs in their entry
+pub record Ran (net : Network) (one : Located) (k : ℕ) (t outputs table outputs-left : List ℕ) : Type 0 where
+  pub table-after : table ≡ block-table net (one .block) t (power-of net (one .block) t outputs k)
+  pub entry-after : outputs-left ≡ set outputs k (packed (block-outputs net (one .block) t (power-of net (one .block) t outputs k)))
 
 -- an opening of these words, which are accepted
 pub record Legible (ws : Words) (o : Opened) : Type 0 where
@@ -59,18 +56,14 @@ located-at net k = located net (block-of net k)
 abbrev pub Locates : Network → List Located → Type 0
 Locates net blocks = (k : ℕ) → k < block-count net → (otherwise : Located) → getD blocks k otherwise ≡ located-at net k
 
--- ---- several scans
-
--- an opening of these words, and a table and lists with which so many scans are not refused
-pub record Repeatable (ws : Words) (o : Opened) (t : Table) (times : ℕ) (outputs pointers : List ℕ) : Type 0 where
+-- an opening of these words, and a table and a list with which a scan is not refused
+pub record AllReady (ws : Words) (o : Opened) (t : Table) (outputs : List ℕ) : Type 0 where
   pub opens : o ≡ opened ws
   pub accepted : checked ws .number ≡ 0
   pub exact : length t ≡ total (network-in ws .sizes)
-  pub outputs-room : times * block-count (network-in ws) ≤ length outputs
-  pub pointers-room : times * block-count (network-in ws) ≤ length pointers
+  pub room : block-count (network-in ws) ≤ length outputs
 
--- the table after them, and the lists with their outputs and pointers in front
-pub record Repeated (net : Network) (times : ℕ) (t outputs pointers table outputs-left pointers-left : List ℕ) : Type 0 where
-  pub table-after : table ≡ scans-table net t times
-  pub outputs-after : outputs-left ≡ scans-outputs net t times ++ drop (times * block-count net) outputs
-  pub pointers-after : pointers-left ≡ scans-pointers net t times ++ drop (times * block-count net) pointers
+-- the table after it, and the list with its outputs in front
+pub record AllRan (net : Network) (t outputs table outputs-left : List ℕ) : Type 0 where
+  pub table-after : table ≡ scanned net t .table
+  pub outputs-after : outputs-left ≡ map packed (scanned net t .outs) ++ drop (block-count net) outputs

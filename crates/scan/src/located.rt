@@ -1,4 +1,4 @@
-// The records of an opened network, read out of its words once for all scans.
+// The records of an opened network, read out of its words once, before its first block runs.
 use blocks::Located;
 use network::MOST_BLOCKS;
 use network::Opened;

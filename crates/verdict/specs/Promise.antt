@@ -15,13 +15,6 @@ pub record LeavesTwo {R : Type 0} (expected : R) (first second : List ℕ) (answ
   pub leaves-one : one ≡ first
   pub leaves-other : other ≡ second
 
--- and three
-pub record LeavesThree {R : Type 0} (expected : R) (first second third : List ℕ) (answer : R) (one other last : List ℕ) : Type 0 where
-  pub answers : answer ≡ expected
-  pub leaves-one : one ≡ first
-  pub leaves-other : other ≡ second
-  pub leaves-last : last ≡ third
-
 -- `Post` below is what the check reads off a function's own `ensures`, over its lifetimes, its arguments, its result and
 -- its parameters at exit: a statement made with it is about the contract as the source has it
 module _ {K : Type 0} {A R S : K → Type 0} (Post : (κs : K) → A κs → R κs → S κs → Type 0) where

@@ -7,10 +7,10 @@ use Rattle.bench.proofs.read_input.Statement.{statement}
 use Rattle.bench.proofs.read_input.Tie as tie
 
 abbrev Inv-loop : tie.InvT-loop
-Inv-loop bytes₀ count₀ bytes count = (length bytes ≡ length bytes₀) × (count ≤ length bytes)
+Inv-loop bytes₀ count₀ bytes count = (length bytes ≡ length bytes₀) × (count ≤ length bytes₀)
 
 abbrev μ-loop : tie.MeasureT-loop
-μ-loop bytes₀ count₀ bytes count = length bytes - count
+μ-loop bytes₀ count₀ bytes count = length bytes₀ - count
 
 loop-holds : tie.Need-loop-holds Inv-loop μ-loop
 loop-holds c = search needs

@@ -6,8 +6,8 @@ use borrow.Author.Needs.{needs}
 use lib.ListN.{replicate, length-replicate}
 use lib.Seq.{length-take-le}
 use Rattle.verdict.specs.Verdict.{verdict}
-use Rattle.lines.specs.Text.{refusal-line}
-use Rattle.lines.proofs.Laying.{refusal-few, place-few}
+use Rattle.text.specs.Text.{refusal-line}
+use Rattle.text.proofs.Laying.{refusal-few, place-few}
 use Rattle.bench.proofs.refuse.Statement.{statement}
 use Rattle.bench.proofs.refuse.Tie as tie
 

@@ -2,8 +2,8 @@
 use borrow.Author.Needs.{needs}
 use native.Mathlib.Omega.{arith}
 use mathlib.Core.Path.{sym}
-use Rattle.lines.proofs.Putting.{put-as}
-use Rattle.lines.proofs.Laying.{no-pointer-low, no-pointer-high, pointer-shown}
+use Rattle.text.proofs.Putting.{put-as}
+use Rattle.text.proofs.Laying.{no-pointer-low, no-pointer-high, pointer-shown}
 use Rattle.lines.proofs.put_pointer.Statement.{statement}
 use Rattle.lines.proofs.put_pointer.Tie as tie
 

@@ -1,7 +1,7 @@
 -- `lines::put::put_byte` meets its contract. Assumes nothing.
 use borrow.Author.Needs.{needs}
 use denote.Ref.{now}
-use Rattle.lines.proofs.Putting.{put-one}
+use Rattle.text.proofs.Putting.{put-one}
 use Rattle.lines.proofs.put.put_byte.Statement.{statement}
 use Rattle.lines.proofs.put.put_byte.Tie as tie
 

@@ -1,6 +1,6 @@
 -- `lines::put::put_digit` meets its contract. Assumes nothing.
 use borrow.Author.Needs.{needs}
-use Rattle.lines.specs.Text.{digits}
+use Rattle.text.specs.Text.{digits}
 use Rattle.lines.proofs.put.put_digit.Statement.{statement}
 use Rattle.lines.proofs.put.put_digit.Tie as tie
 

@@ -3,8 +3,8 @@ use borrow.Author.Needs.{needs}
 use native.Mathlib.Omega.{arith}
 use mathlib.Core.Path.{_≡_, ap}
 use Prim.Native.Nat.{_/_}
-use Rattle.lines.specs.Text.{digits}
-use Rattle.lines.proofs.Putting.{put-as, places-1, places-2, places-3, places-4, places-5, put-two-more, put-decimal}
+use Rattle.text.specs.Text.{digits}
+use Rattle.text.proofs.Putting.{put-as, places-1, places-2, places-3, places-4, places-5, put-two-more, put-decimal}
 use Rattle.lines.proofs.put.put_number.Statement.{statement}
 use Rattle.lines.proofs.put.put_number.Tie as tie
 

@@ -1,7 +1,7 @@
 -- `lines::put::put_two_digits` meets its contract. Assumes nothing.
 use borrow.Author.Needs.{needs}
-use Rattle.lines.specs.Text.{digits}
-use Rattle.lines.proofs.Putting.{put-then}
+use Rattle.text.specs.Text.{digits}
+use Rattle.text.proofs.Putting.{put-then}
 use Rattle.lines.proofs.put.put_two_digits.Statement.{statement}
 use Rattle.lines.proofs.put.put_two_digits.Tie as tie
 

@@ -1,66 +1,44 @@
--- `rules::fault::judged` meets its contract. The loop keeps that the first refusal from here on is the first of all. Assumes nothing.
+-- `rules::fault::judged` meets its contract: words that are all there and earn nothing are done with. Assumes nothing.
 use borrow.Author.Needs.{needs}
 use native.Mathlib.Omega.{arith}
-use Prim.Native.Nat.{_-_}
-use Rattle.section.proofs.Walk.{Reached, begun, stop-missing, stop-fault, go-on, passed}
+use mathlib.Core.Path.{sym}
+use Rattle.section.proofs.Walk.{clean-done, begun}
 use Rattle.rules.specs.Fault.{faults}
 use Rattle.rules.proofs.Faults.{faults-long}
 use Rattle.rules.proofs.fault.judged.Statement.{statement}
 use Rattle.rules.proofs.fault.judged.Tie as tie
 
-abbrev Inv-loop : tie.InvT-loop
-Inv-loop sizes earlier block at size row q₀ q = Reached (faults sizes earlier block) 15 size at q
+add-if1 : tie.Need-add-if1
+add-if1 c = search needs
 
-abbrev μ-loop : tie.MeasureT-loop
-μ-loop sizes earlier block at size row q₀ q = 15 - q
+clean-requires : tie.Need-clean-requires
+clean-requires c κs = search needs
 
-rule-of-requires : tie.Need-rule-of-requires Inv-loop μ-loop
+returns : tie.Need-returns
+returns c =
+    let x = c .before .before .before .args in
+    sym (clean-done (x .size) (faults (x .sizes) (x .earlier) (x .block)) (x .at) (c .before .clean .ensures (c .if2 .taken))
+    (omega (arith, c .before .before .if1 .taken, faults-long (x .sizes) (x .earlier) (x .block))))
+
+rule-of-requires : tie.Need-rule-of-requires
 rule-of-requires c κs = search needs
 
-loop-holds : tie.Need-loop-holds Inv-loop μ-loop
-loop-holds c = begun _ _ _ _ (faults-long _ _ _)
+first-refusal-requires : tie.Need-first-refusal-requires
+first-refusal-requires c κs =
+    let x = c .before .before .args in
+    let first = begun (faults (x .sizes) (x .earlier) (x .block)) 15 (x .size) (x .at) (faults-long (x .sizes) (x .earlier) (x .block)) in
+    (c .rule-of .ensures, first .count, first .same)
 
-add-i : tie.Need-add-i Inv-loop μ-loop
-add-i c = omega arith
-
-add-place : tie.Need-add-place Inv-loop μ-loop
-add-place c = omega arith
-
-returns : tie.Need-returns Inv-loop μ-loop
-returns c = stop-missing (c .before .before .loop .inv) (c .before .loop-test .taken) (c .if1 .taken)
-
-word-fault-requires : tie.Need-word-fault-requires Inv-loop μ-loop
-word-fault-requires c κs = c .before .before .before .rule-of .ensures
-
-returns-2 : tie.Need-returns-2 Inv-loop μ-loop
-returns-2 c = stop-fault (c .before .before .before .before .loop .inv) (c .before .before .before .loop-test .taken) (c .before .before .if1 .left) (c .before .word-fault .ensures) (c .if2 .taken)
-
-add-q : tie.Need-add-q Inv-loop μ-loop
-add-q c = omega arith
-
-loop-less : tie.Need-loop-less Inv-loop μ-loop
-loop-less c = omega arith
-
-loop-again : tie.Need-loop-again Inv-loop μ-loop
-loop-again c = go-on (c .before .before .before .before .loop .inv) (c .before .before .before .loop-test .taken) (c .before .before .if1 .left) (c .before .word-fault .ensures) (c .if2 .left)
-
-returns-3 : tie.Need-returns-3 Inv-loop μ-loop
-returns-3 c = passed (c .before .loop .inv) (c .loop-test .left)
+returns-2 : tie.Need-returns-2
+returns-2 c = search needs
 
 pub judged-spec : {M : Type 1} → statement M
 judged-spec =
     tie.close
     (tie.spec
-    Inv-loop
-    μ-loop
-    rule-of-requires
-    loop-holds
-    add-i
-    add-place
+    add-if1
+    clean-requires
     returns
-    word-fault-requires
-    returns-2
-    add-q
-    loop-less
-    loop-again
-    returns-3)
+    rule-of-requires
+    first-refusal-requires
+    returns-2)

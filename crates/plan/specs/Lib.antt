@@ -1,0 +1,3 @@
+-- What the contract of `plan` cites: what a run needs of each block of a network, in numbers.
+pub mod Plan
+pub mod Seen

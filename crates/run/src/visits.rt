@@ -1,0 +1,165 @@
+// Visits one after the other, each with its line put into a lent buffer.
+use crate::visit::visit;
+use lines::put_line;
+use network::MOST_BLOCKS;
+use network::Opened;
+use plan::PLAN;
+use plan::STEP;
+use plan::put_plan;
+use text::label;
+ghost use mathlib.Core.Path.{_≡_};
+ghost use Prim.Native.Nat.{ℕ, _+_, _-_, _/_, _≤_, _<_};
+ghost use lib.ListN.{length, getD};
+ghost use Rattle.network.specs.Network.{Network};
+ghost use Rattle.network.specs.Check.{network-in, most-blocks};
+ghost use Rattle.text.specs.Text.{label-of};
+ghost use Rattle.run.specs.Inner.{turn-at, stop-at, Turned, Turnable, Lined, InScan, Scannable, ScanMade, OpensFront, Ahead, Made};
+
+// What a plan is filled with where there is no block: no kind has this number.
+const NO_KIND: u32 = 9;
+
+// Whose turn it is: the scan, and how many of its blocks were visited.
+struct Turn {
+    scan: u16,
+    block: usize,
+}
+
+// That of a visit, by its number.
+fn turn_of(from: usize, count: usize) -> Turn
+    requires { ⌜ (0 < count) × (from / count ≤ 65534) ⌝ }
+    ensures { λ r. ⌜ r ≡ turn-at from count ⌝ }
+{
+    Turn {
+        scan: (from / count) as u16 + 1,
+        block: from % count,
+    }
+}
+
+// Up to which block of its scan the visits go from block k + 1 on, where so many are left.
+fn stop_at(k: usize, left: usize, count: usize) -> usize
+    requires { ⌜ k + left ≤ 1000000000 ⌝ }
+    ensures { λ r. ⌜ r ≡ stop-at k left count ⌝ }
+{
+    if k + left < count {
+        return k + left;
+    }
+    count
+}
+
+// The labels of so many blocks.
+fn labels_of(count: usize) -> [u64; MOST_BLOCKS]
+    requires { ⌜ count ≤ most-blocks ⌝ }
+    ensures { λ r. ⌜ (length r ≡ most-blocks) × ((k : ℕ) → k < count → getD r k 0 ≡ label-of (k + 1)) ⌝ }
+{
+    let mut labels = [0u64; MOST_BLOCKS];
+    let mut k = 0;
+    while k < count {
+        labels[k] = label(k as u16 + 1);
+        k += 1;
+    }
+    labels
+}
+
+// The visit of the block after the first k, and its line from a place on, in the scan of a label.
+fn visit_and_put(
+    state: &mut [u16],
+    size: usize,
+    plan: &[u32],
+    labels: &[u64],
+    label: u64,
+    k: usize,
+    text: &mut [u8],
+    at: usize,
+) -> usize
+    requires { ⌜ Turnable (now state) size (now plan) (now labels) label k (now text) at ⌝ }
+    ensures { λ r. ⌜
+        ((net : Network) (scan : ℕ) → Turned net scan (now (state .entry)) size (now (plan .entry)) (now (labels .entry)) label k →
+        Lined net scan k (now (state .entry)) (now (text .entry)) at r (now (state .exit)) (now (text .exit))) ⌝ }
+{
+    let seen = visit(state, size, plan, k);
+    let kind = plan[STEP * k] as u16;
+    put_line(text, at, label, labels[k], seen.out, kind, seen.pointer)
+}
+
+// The visits of a scan's blocks from one on, up to another, in the scan of a label.
+fn put_blocks(
+    state: &mut [u16],
+    size: usize,
+    plan: &[u32],
+    labels: &[u64],
+    label: u64,
+    first: usize,
+    end: usize,
+    text: &mut [u8],
+    at: usize,
+) -> usize
+    requires { ⌜ Scannable (now state) size (now plan) (now labels) label first end (now text) at ⌝ }
+    ensures { λ r. ⌜
+        ((net : Network) (scan : ℕ) → InScan net scan (now (state .entry)) size (now (plan .entry)) (now (labels .entry)) label first end →
+        ScanMade net scan first (end - first) (now (state .entry)) (now (text .entry)) at r (now (state .exit)) (now (text .exit))) ⌝ }
+{
+    let mut next = at;
+    let mut k = first;
+    while k < end {
+        next = visit_and_put(state, size, plan, labels, label, k, text, next);
+        k += 1;
+    }
+    next
+}
+
+// So many visits from one on, and at least one, of an opened network, whose table has so many words: scan by scan.
+fn make_visits(
+    words: &[u16],
+    o: Opened,
+    count: usize,
+    size: usize,
+    state: &mut [u16],
+    from: usize,
+    many: usize,
+    text: &mut [u8],
+    at: usize,
+) -> usize
+    requires { ⌜ OpensFront (now words) o × Ahead (network-in (now words)) count size (now state) from many (now text) at ⌝ }
+    ensures { λ r. ⌜
+        Made (network-in (now (words .entry))) (now (state .entry)) from many (now (text .entry)) at r (now (state .exit)) (now (text .exit)) ⌝ }
+{
+    let mut plan = [NO_KIND; PLAN];
+    put_plan(words, o, &mut plan);
+    let labels = labels_of(count);
+    let turn = turn_of(from, count);
+    let mut scan = turn.scan;
+    let mut k = turn.block;
+    let mut left = many;
+    let mut next = at;
+    while 0 < left {
+        let end = stop_at(k, left, count);
+        next = put_blocks(state, size, &plan, &labels, label(scan), k, end, text, next);
+        left -= end - k;
+        k = 0;
+        scan += 1;
+    }
+    next
+}
+
+// So many visits from one on, or none.
+pub(crate) fn put_visits(
+    words: &[u16],
+    o: Opened,
+    count: usize,
+    size: usize,
+    state: &mut [u16],
+    from: usize,
+    many: usize,
+    text: &mut [u8],
+    at: usize,
+) -> usize
+    requires { ⌜
+        (at ≤ length (now text)) × OpensFront (now words) o × (0 < many → Ahead (network-in (now words)) count size (now state) from many (now text) at) ⌝ }
+    ensures { λ r. ⌜
+        Made (network-in (now (words .entry))) (now (state .entry)) from many (now (text .entry)) at r (now (state .exit)) (now (text .exit)) ⌝ }
+{
+    if many == 0 {
+        return at;
+    }
+    make_visits(words, o, count, size, state, from, many, text, at)
+}
