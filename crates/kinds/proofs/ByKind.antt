@@ -1,8 +1,8 @@
--- A block's work and its pointer, by the number of its kind. Assumes nothing.
-use mathlib.Core.Path.{_≡_, refl, sym, ap, subst}
+-- A block's work, by the number of its kind. Assumes nothing.
+use mathlib.Core.Path.{_≡_, sym, subst}
 use mathlib.Core.Bool.{Bool, false, cond}
 use mathlib.Core.List.{List}
-use Prim.Native.Nat.{ℕ, zero, suc}
+use Prim.Native.Nat.{ℕ}
 use native.Mathlib.Omega.{arith}
 use lib.ListN.{length}
 use Rattle.verdict.specs.Promise.{Leaves}
@@ -10,12 +10,11 @@ use Rattle.rules.specs.Rules.{kind}
 use Rattle.blocks.specs.declared.Power.{Power}
 use Rattle.blocks.specs.declared.Located.{Located}
 use Rattle.blocks.specs.declared.answer.Worked.{Worked}
-use Rattle.blocks.specs.Kind.{kind-of, has-pointer}
-use Rattle.blocks.specs.View.{pointer-at, seen-by}
-use Rattle.blocks.specs.Work.{pointer-node, effect-as}
+use Rattle.blocks.specs.Kind.{kind-of}
+use Rattle.blocks.specs.View.{seen-by}
+use Rattle.blocks.specs.Work.{effect-as}
 use Rattle.blocks.specs.Answer.{refused, Does}
-use Rattle.kinds.specs.Call.{kind-fault, work-fault, pointer-word, effect-here, work-answer, work-table, pointer-shown}
-use Rattle.kinds.proofs.Numbers.{past-seven}
+use Rattle.kinds.specs.Call.{kind-fault, work-fault, pointer-word, effect-here, work-answer, work-table}
 use Rattle.blocks.proofs.Doing.{refuses}
 
 module _ (one : Located) (t : List ℕ) (on : Power) where
@@ -37,26 +36,3 @@ module _ (one : Located) (t : List ℕ) (on : Power) where
       as-promised
       (subst (λ (a : Bool). Does (cond a (kind-fault (kind-of (one .block .kind)) one (length t)) 4) on (effect-here one t on) (one .middle) (one .block .n) (pointer-word (kind-of (one .block .kind)) one) t r t) (sym e)
       (refuses (λ z. omega arith) q))
-
-module _ (one : Located) (t : List ℕ) where
-  shown-as : ℕ → ℕ
-  shown-as k = cond (has-pointer k) (pointer-at (pointer-node (kind-of k) (one .block)) (pointer-word (kind-of k) one) t) 0
-
-  pub pointer-is : (k : ℕ) → one .block .kind ≡ k
-      → cond (has-pointer k) (pointer-at (pointer-node (kind-of k) (one .block)) (pointer-word (kind-of k) one) t) 0 ≡ pointer-shown one t
-  unfolding pointer-shown shown-as
-  pointer-is k e = ap shown-as (sym e)
-
-  pub no-pointer : (k : ℕ) → one .block .kind ≡ k → (k ≡ 5 → ⊥) → (k ≡ 6 → ⊥) → (k ≡ 7 → ⊥) → 0 ≡ pointer-shown one t
-  unfolding pointer-shown shown-as kind-of
-  no-pointer zero e f g h = ap shown-as (sym e)
-  no-pointer (suc zero) e f g h = ap shown-as (sym e)
-  no-pointer (suc (suc zero)) e f g h = ap shown-as (sym e)
-  no-pointer (suc (suc (suc zero))) e f g h = ap shown-as (sym e)
-  no-pointer (suc (suc (suc (suc zero)))) e f g h = ap shown-as (sym e)
-  no-pointer (suc (suc (suc (suc (suc zero))))) e f g h = absurd (f refl)
-  no-pointer (suc (suc (suc (suc (suc (suc zero)))))) e f g h = absurd (g refl)
-  no-pointer (suc (suc (suc (suc (suc (suc (suc zero))))))) e f g h = absurd (h refl)
-  no-pointer (suc (suc (suc (suc (suc (suc (suc (suc k)))))))) e f g h =
-      ap (λ (a : Bool). cond a (pointer-at (pointer-node (kind-of (one .block .kind)) (one .block)) (pointer-word (kind-of (one .block .kind)) one) t) 0)
-      (sym (past-seven (one .block .kind) (omega (arith, e))))

@@ -2,12 +2,8 @@
 -- one equation for the answer and one for the table. Assumes nothing.
 use mathlib.Core.Path.{sym, _∙_}
 use denote.Ref.{now}
-use Rattle.verdict.specs.Promise.{Decides, DecidesBoth}
+use Rattle.verdict.specs.Promise.{DecidesBoth}
 use Rattle.kinds.proofs.block.work.Reads as work-reads
-use Rattle.kinds.proofs.block.pointer_of.Reads as pointer-of-reads
 
 pub work : DecidesBoth work-reads.Post (λ κs s. now (s .0))
 work κs a x y s t p q = (p .answers ∙ sym (q .answers), p .leaves ∙ sym (q .leaves))
-
-pub pointer-of : Decides pointer-of-reads.Post
-pointer-of κs a x y s t p q = p ∙ sym q

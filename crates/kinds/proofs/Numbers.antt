@@ -1,4 +1,4 @@
--- Numbers of kinds: one that is none of the eight, and one that is past the last kind with a pointer. Assumes nothing.
+-- A number that is none of the eight kinds'. Assumes nothing.
 use mathlib.Core.Path.{_≡_, refl}
 use mathlib.Core.Bool.{Bool, true, false, _&&_}
 use Prim.Native.Nat.{ℕ, zero, suc, _<_}
@@ -6,14 +6,10 @@ use native.Mathlib.Omega.{arith}
 use borrow.Author.Tests.{lt-leb}
 use lib.Dec.{leb}
 use Rattle.rules.specs.Rules.{kind}
-use Rattle.blocks.specs.Kind.{has-pointer}
 
 past : (low : Bool) (k most : ℕ) → most < k → (low && leb k most) ≡ false
 past true k most l = lt-leb k most l
 past false k most l = refl
-
-pub past-seven : (k : ℕ) → 7 < k → has-pointer k ≡ false
-past-seven k l = past (leb 5 k) k 7 l
 
 pub no-kind : (k : ℕ) → (k ≡ 1 → ⊥) → (k ≡ 2 → ⊥) → (k ≡ 3 → ⊥) → (k ≡ 4 → ⊥) → (k ≡ 5 → ⊥) → (k ≡ 6 → ⊥) → (k ≡ 7 → ⊥) → (k ≡ 8 → ⊥) → kind k ≡ false
 no-kind zero a b c d e f g h = refl

@@ -1,4 +1,4 @@
-// A block's work, by its kind, and its pointer.
+// A block's work, by its kind.
 use crate::whole::logic;
 use crate::whole::rotate;
 use blocks::Located;
@@ -8,11 +8,10 @@ use blocks::refused;
 use matrix::Operation;
 use pointed::compare;
 use pointed::modify;
-use pointed::pointer_in;
 use pointed::sense;
 ghost use mathlib.Core.Path.{_≡_};
 ghost use Rattle.verdict.specs.Promise.{Leaves};
-ghost use Rattle.kinds.specs.Call.{work-answer, work-table, pointer-shown};
+ghost use Rattle.kinds.specs.Call.{work-answer, work-table};
 
 // The destination and the pointer are written as the kind's rule says; the answer is the outputs.
 pub fn work(table: &mut [u16], one: Located, on: Power) -> Worked
@@ -34,20 +33,5 @@ pub fn work(table: &mut [u16], one: Located, on: Power) -> Worked
         7 => sense(table, block.top, top, middle, n, on),
         8 => rotate(table, top, middle, n, on),
         _ => refused(4),
-    }
-}
-
-// The block's pointer as the table has it: a constant itself, or the register's content, 0 where the register is outside the
-// table; 0 for a kind without one.
-pub fn pointer_of(table: &[u16], one: Located) -> u16
-    ensures { λ r. ⌜ r ≡ pointer-shown one (now (table .entry)) ⌝ }
-{
-    let block = one.block;
-    let kind = block.kind;
-    match kind {
-        5 => pointer_in(table, block.middle, one.middle),
-        6 => pointer_in(table, block.top, one.top),
-        7 => pointer_in(table, block.top, one.top),
-        _ => 0,
     }
 }

@@ -6,5 +6,4 @@
 mod block;
 mod whole;
 
-pub use block::pointer_of;
 pub use block::work;

@@ -2,9 +2,8 @@
 -- one equation for the answer and one for the table. Assumes nothing.
 use mathlib.Core.Path.{sym, _∙_}
 use denote.Ref.{now}
-use Rattle.verdict.specs.Promise.{Decides, DecidesBoth}
+use Rattle.verdict.specs.Promise.{DecidesBoth}
 use Rattle.pointed.proofs.cmpr.compare.Reads as compare-reads
-use Rattle.pointed.proofs.register.pointer_in.Reads as pointer-in-reads
 use Rattle.pointed.proofs.single.modify.Reads as modify-reads
 use Rattle.pointed.proofs.single.sense.Reads as sense-reads
 
@@ -16,6 +15,3 @@ modify κs a x y s t p q = (p .answers ∙ sym (q .answers), p .leaves ∙ sym (
 
 pub sense : DecidesBoth sense-reads.Post (λ κs s. now (s .0))
 sense κs a x y s t p q = (p .answers ∙ sym (q .answers), p .leaves ∙ sym (q .leaves))
-
-pub pointer-in : Decides pointer-in-reads.Post
-pointer-in κs a x y s t p q = p ∙ sym q

@@ -8,6 +8,5 @@ mod register;
 mod single;
 
 pub use cmpr::compare;
-pub use register::pointer_in;
 pub use single::modify;
 pub use single::sense;

@@ -11,7 +11,7 @@ ghost use Rattle.blocks.specs.View.{pointer-at};
 ghost use Rattle.pointed.specs.Call.{pointed-fault};
 
 // The pointer that a node gives: a constant's value, or the content of its register, 0 where that is outside the table.
-pub fn pointer_in(table: &[u16], node: Node, register: usize) -> u16
+pub(crate) fn pointer_in(table: &[u16], node: Node, register: usize) -> u16
     ensures { λ r. ⌜ r ≡ pointer-at node register (now (table .entry)) ⌝ }
 {
     if node.class == 9 {

@@ -1,14 +1,15 @@
 -- A visit that follows a plan is the visit of the definition: the plan's numbers say what the record says, a look sees what its input
 -- passes, and a spot is its coil. Assumes nothing.
 use mathlib.Core.Path.{_≡_, sym, ap, _∙_, subst}
-use mathlib.Core.Bool.{true, false, false≢true}
+use mathlib.Core.Bool.{true, false, false≢true, cond}
 use mathlib.Core.Logic.{inl, inr}
 use mathlib.Core.List.{List, [], _∷_, _++_}
 use Prim.Native.Nat.{ℕ, suc, _+_, _-_, _*_, _/_, _≤_, _<_}
 use native.Mathlib.Decide.{ℕ-discrete}
 use native.Mathlib.Omega.{arith}
-use borrow.Author.Tests.{ne-eqb}
-use lib.ListN.{length, getD, take, drop, set, length-append, length-drop}
+use borrow.Author.Tests.{eq-eqb, ne-eqb}
+use lib.Dec.{eqb}
+use lib.ListN.{length, getD, take, drop, set, length-append, length-drop, List·getD-append}
 use lib.Seq.{take-at, length-take-le}
 use Rattle.level.specs.Level.{most-constant}
 use Rattle.level.proofs.Limits.{at-most}
@@ -20,7 +21,7 @@ use Rattle.network.specs.Network.{Network, block-count, block-of}
 use Rattle.rules.specs.declared.rules.Classes.{Classes}
 use Rattle.rules.specs.Rules.{allows}
 use Rattle.rules.specs.Sound.{GoodNode, GoodInput, GoodBlock}
-use Rattle.rules.proofs.KindFacts.{KindFacts, accepted-means}
+use Rattle.rules.proofs.KindFacts.{Pointed, KindFacts, accepted-means}
 use Rattle.blocks.specs.declared.{Power.Power, Outputs.Outputs, Located.Located, answer.Worked.Worked}
 use Rattle.blocks.specs.Kind.{kind-of}
 use Rattle.blocks.specs.View.{first-word}
@@ -28,17 +29,17 @@ use Rattle.blocks.specs.Work.{pointer-node, effect-on, effect-put, block-output
 use Rattle.blocks.specs.Packed.{packed}
 use Rattle.blocks.specs.Truths.{Runs}
 use Rattle.blocks.proofs.Written.{same-long}
-use Rattle.kinds.specs.Call.{work-answer, work-table, pointer-shown}
+use Rattle.kinds.specs.Call.{work-answer, work-table}
 use Rattle.kinds.proofs.Checked.{answers-done, table-done}
-use Rattle.text.specs.Text.{pointer-field}
+use Rattle.scan.specs.Scans.{pointer-of}
 use Rattle.plan.specs.declared.{Look.Look, Spot.Spot}
 use Rattle.plan.specs.Plan.{looks, spot, look-of, spot-of, step-size, step-words}
 use Rattle.plan.specs.Seen.{sees, spot-put}
 use Rattle.plan.proofs.Seeing.{look-passes, look-room}
 use Rattle.plan.proofs.Spots.{Small, small-take, spots-coils, spot-room, spot-mask}
 use Rattle.run.specs.Visits.{table-in, packs-in, visit-power, visit-outputs, visit-table, visited}
-use Rattle.run.specs.Inner.{look-in, spot-in, power, power-seen, power-read, node, bare-at, located-in, work-outputs, work-state, spots-put, Looking, Worded, Working, Spotted, AllSpotted, Planned, Visits}
-use Rattle.run.proofs.Stepping.{bare-answers, bare-leaves, bare-shows}
+use Rattle.run.specs.Inner.{look-in, spot-in, power, power-seen, power-read, node, bare-at, located-in, work-outputs, work-state, spots-put, shown-in, Looking, Worded, Working, Spotted, AllSpotted, Showing, Planned, Visits}
+use Rattle.run.proofs.Stepping.{bare-answers, bare-leaves, shows-pointer}
 
 -- ---- a node's class and number are words
 class-low : (c : Classes) (class : ℕ) → allows c class ≡ true → class ≤ 9
@@ -92,6 +93,10 @@ number-low z g c n words h = elim (ℕ-discrete (n .class) 9) [
 -- ---- a kind that is none of the last four
 first-four : (k : ℕ) → k ≤ 8 → (k ≡ 5 → ⊥) → (k ≡ 6 → ⊥) → (k ≡ 7 → ⊥) → (k ≡ 8 → ⊥) → k ≤ 4
 first-four k l a b c d = omega arith
+
+-- ---- a kind with a pointer that is neither of the first two
+the-third : (k : ℕ) → 5 ≤ k → k ≤ 7 → (k ≡ 5 → ⊥) → (k ≡ 6 → ⊥) → k ≡ 7
+the-third k l u a b = omega arith
 
 -- ---- a word stored after the first list
 set-append-add : (xs ys : List ℕ) (k a : ℕ) → set (xs ++ ys) (length xs + k) a ≡ xs ++ set ys k a
@@ -179,6 +184,9 @@ module _ {net : Network} {k : ℕ} {state plan : List ℕ} {size : ℕ} (S : Pla
       (λ h. work-answer (located-is h) (take (S .sized h) state) (power-read (kind-is h) (power-is h)) .outputs)
       ∙ ap (λ (w : Worked). w .outputs) (bare-answers net b t on (good-block .kind-low) (good-block .kind-high) held ∙ answers-done net k b t runs on)
 
+  table-long : length (visit-table net k state) ≡ total z
+  table-long = same-long net k b t runs on ∙ runs .exact
+
   abbrev done-table : List ℕ
   done-table = effect-put (first-word net (b .middle)) (b .n) (first-word net (pointer-node (kind-of (b .kind)) b)) (effect-on net b t on) t
 
@@ -222,13 +230,10 @@ module _ {net : Network} {k : ℕ} {state plan : List ℕ} {size : ℕ} (S : Pla
         shown : out ≡ visit-outputs net k state
         shown = o ∙ outputs-are
 
-    -- ---- its outputs in their place, and its pointer
+    -- ---- its outputs in their place
     module _ {out : Outputs} (o : out ≡ work-outputs state size plan i) {coiled : List ℕ} (c : coiled ≡ spots-put worked plan (i + 15) out) {pack : ℕ} (p : pack ≡ packed out) where
       shown : out ≡ visit-outputs net k state
       shown = o ∙ outputs-are
-
-      table-long : length (visit-table net k state) ≡ total z
-      table-long = same-long net k b t runs on ∙ runs .exact
 
       pub after-is : set coiled (size + k) pack ≡ visited net k state
       unfolding visited
@@ -236,19 +241,8 @@ module _ {net : Network} {k : ℕ} {state plan : List ℕ} {size : ℕ} (S : Pla
           (λ h. set ((c ∙ coils-are o) h) ((S .sized ∙ sym table-long) h + k) ((p ∙ ap packed shown) h))
           ∙ set-append-add (visit-table net k state) (packs-in net state) k (packed (visit-outputs net k state))
 
-      pub visit-done : {mark : ℕ} → mark ≡ pointer-shown (located-in plan i) (take size (set coiled (size + k) pack))
-          → Visits net k state (record { out = pack; pointer = mark }) (set coiled (size + k) pack)
-      unfolding visited
-      visit-done {mark} m = record {
-        outputs = p ∙ ap packed shown;
-        pointer =
-            ap (pointer-field (b .kind))
-            (m
-            ∙ (λ h. pointer-shown (located-is h) (take (S .sized h) (after-is h)))
-            ∙ ap (pointer-shown thin) (take-at (visit-table net k state) _ (total z) table-long)
-            ∙ bare-shows net b (visit-table net k state) on (good-block .kind-low) (good-block .kind-high) held);
-        leaves = after-is;
-      }
+      pub visit-done : Visits net k state pack (set coiled (size + k) pack)
+      visit-done = record { outputs = p ∙ ap packed shown; leaves = after-is }
 
   -- ---- what the functions ask for
   some-blocks : 0 < block-count net
@@ -289,6 +283,51 @@ module _ {net : Network} {k : ℕ} {state plan : List ℕ} {size : ℕ} (S : Pla
     class = omega (arith, first 4 (omega arith), class-low _ (b .top .class) (good-block .top-node .class-allowed));
     number = omega (arith, first 5 (omega arith), number-low z (S .good .areas) _ (b .top) _ (good-block .top-node));
   }
+
+  -- ---- its pointer, where its kind has one
+  module _ (low : 5 ≤ b .kind) (high : b .kind ≤ 7) where
+    pointed : (b .kind ≡ 5 → ⊥) → Pointed z b
+    pointed h = elim (ℕ-discrete (b .kind) 6) [
+      | yes e ↦ facts .modify e
+      | no e ↦ facts .sense (the-third (b .kind) low high h e)
+    ]
+
+    middle-inside : b .kind ≡ 5 → first-word net (b .middle) < total z
+    middle-inside e = omega (arith, facts .compare e .pointer-and-matrix)
+
+    top-inside : (b .kind ≡ 5 → ⊥) → (b .top .class ≡ 9 → ⊥) → first-word net (b .top) < total z
+    top-inside h c = omega (arith, pointed h .register c)
+
+    pub is-showing : (words : ℕ) → words ≡ length state → Showing plan i words
+    unfolding step-words
+    is-showing words e = record {
+      there = S .long;
+      number = is-worded .number;
+      middle = λ q. omega (arith, first 3 (omega arith), middle-inside (sym kind-is ∙ q), S .exact, e);
+      top = λ h c. omega (arith, first 2 (omega arith), top-inside (λ q. h (kind-is ∙ q)) (λ q. c (first 4 (omega arith) ∙ q)), S .exact, e);
+    }
+
+    abbrev shows : List ℕ → ℕ
+    shows u = cond (eqb (b .kind) 5) (getD u (first-word net (b .middle)) 0) (cond (eqb (b .top .class) 9) (b .top .number) (getD u (first-word net (b .top)) 0))
+
+    pub shown-is : {left : List ℕ} → left ≡ visited net k state → shown-in left plan i ≡ pointer-of net b (visit-table net k state)
+    unfolding step-words visited
+    shown-is {left} e =
+        (λ h. cond (eqb (kind-is h) 5) (getD left (first 3 (omega arith) h) 0) (cond (eqb (first 4 (omega arith) h) 9) (first 5 (omega arith) h) (getD left (first 2 (omega arith) h) 0)))
+        ∙ same
+        ∙ shows-pointer net b (visit-table net k state) on (good-block .kind-low) (good-block .kind-high) held low high
+      where
+        word : (r : ℕ) → r < total z → getD left r 0 ≡ getD (visit-table net k state) r 0
+        word r l = ap (λ (s : List ℕ). getD s r 0) e ∙ List·getD-append (visit-table net k state) _ 0 r (omega (arith, table-long, l))
+
+        same : shows left ≡ shows (visit-table net k state)
+        same = elim (ℕ-discrete (b .kind) 5) [
+          | yes q ↦ simp (eq-eqb (b .kind) 5 q, word (first-word net (b .middle)) (middle-inside q))
+          | no q ↦ elim (ℕ-discrete (b .top .class) 9) [
+            | yes c ↦ simp (ne-eqb (b .kind) 5 q, eq-eqb (b .top .class) 9 c)
+            | no c ↦ simp (ne-eqb (b .kind) 5 q, ne-eqb (b .top .class) 9 c, word (first-word net (b .top)) (top-inside q c))
+          ]
+        ]
 
   table-inside : size ≤ length state
   table-inside = omega (arith, S .sized, S .exact)

@@ -120,21 +120,22 @@ module _ (net : Network) (b : Block) (t : List ℕ) (on : Power) (low : 1 ≤ b 
       unless (cond (kind (b .kind)) (fault-is i) 4)
       (effect-put (one .middle) (b .n) (word-as (b .kind) low high i) (effect-is i) t) t
 
-  pointer-same : (k : ℕ) → b .kind ≡ k → 1 ≤ k → k ≤ 8
-      → cond (has-pointer k) (pointer-at (pointer-node (kind-of k) (thin .block)) (pointer-word (kind-of k) thin) t) 0
+  -- the pointer that a kind shows, if it has one
+  shown-as : (k : ℕ) → b .kind ≡ k → 5 ≤ k → k ≤ 7
+      → cond (eqb k 5) (getD t (one .middle) 0) (cond (eqb (b .top .class) 9) (b .top .number) (getD t (one .top) 0))
       ≡ cond (has-pointer k) (pointer-at (pointer-node (kind-of k) b) (pointer-word (kind-of k) one) t) 0
   unfolding kind-of
-  pointer-same zero e l u = absurd (omega arith)
-  pointer-same (suc zero) e l u = refl
-  pointer-same (suc (suc zero)) e l u = refl
-  pointer-same (suc (suc (suc zero))) e l u = refl
-  pointer-same (suc (suc (suc (suc zero)))) e l u = refl
-  pointer-same (suc (suc (suc (suc (suc zero))))) e l u = register e (one .middle)
-  pointer-same (suc (suc (suc (suc (suc (suc zero)))))) e l u = refl
-  pointer-same (suc (suc (suc (suc (suc (suc (suc zero))))))) e l u = refl
-  pointer-same (suc (suc (suc (suc (suc (suc (suc (suc zero)))))))) e l u = refl
-  pointer-same (suc (suc (suc (suc (suc (suc (suc (suc (suc k))))))))) e l u = absurd (omega arith)
+  shown-as zero e l u = absurd (omega arith)
+  shown-as (suc zero) e l u = absurd (omega arith)
+  shown-as (suc (suc zero)) e l u = absurd (omega arith)
+  shown-as (suc (suc (suc zero))) e l u = absurd (omega arith)
+  shown-as (suc (suc (suc (suc zero)))) e l u = absurd (omega arith)
+  shown-as (suc (suc (suc (suc (suc zero))))) e l u = register e (one .middle)
+  shown-as (suc (suc (suc (suc (suc (suc zero)))))) e l u = refl
+  shown-as (suc (suc (suc (suc (suc (suc (suc zero))))))) e l u = refl
+  shown-as (suc (suc (suc (suc (suc (suc (suc (suc k)))))))) e l u = absurd (omega arith)
 
-  pub bare-shows : pointer-shown thin t ≡ pointer-of net b t
+  pub shows-pointer : 5 ≤ b .kind → b .kind ≤ 7
+      → cond (eqb (b .kind) 5) (getD t (one .middle) 0) (cond (eqb (b .top .class) 9) (b .top .number) (getD t (one .top) 0)) ≡ pointer-of net b t
   unfolding pointer-shown pointer-of
-  bare-shows = pointer-same (b .kind) refl low high
+  shows-pointer l u = shown-as (b .kind) refl l u

@@ -1,25 +1,26 @@
 -- The laws of turns: the blocks of a scan are visits, the line that is put for a block's turn is the visit's, and one block after another.
 -- Assumes nothing.
 use mathlib.Core.Path.{_≡_, refl, sym, ap, ap₂, _∙_, subst}
-use mathlib.Core.Bool.{Bool, cond}
-use mathlib.Core.List.{List, _++_}
+use mathlib.Core.Bool.{Bool, false, cond, _&&_}
+use mathlib.Core.List.{List, [], _∷_, _++_}
 use Prim.Native.Nat.{ℕ, zero, suc, _+_, _-_, _*_, _/_, _%_, _≤_, _<_}
 use native.Mathlib.Omega.{arith}
-use borrow.Author.Tests.{lt-ltb, le-ltb}
+use borrow.Author.Tests.{lt-ltb, le-ltb, lt-leb, le-leb}
+use lib.Dec.{leb}
 use lib.ListN.{length, getD}
 use Rattle.verdict.specs.Promise.{Leaves}
 use Rattle.table.specs.Table.{total}
 use Rattle.network.specs.Network.{Network, block-count, block-of}
 use Rattle.plan.proofs.Plans.{plan-has, plan-long}
+use Rattle.blocks.specs.Kind.{has-pointer}
 use Rattle.blocks.specs.Packed.{unpacked}
 use Rattle.scan.specs.Scans.{pointer-of}
 use Rattle.scan.proofs.Packing.{unpack-pack}
-use Rattle.text.specs.Text.{label-text, labelled-line, line, pointer-field, longest-line, place-after, laid}
+use Rattle.text.specs.Text.{label-text, labelled-line, line, decimal, pointer-field, longest-line, place-after, laid}
 use Rattle.text.specs.Inner.{Put}
 use Rattle.text.proofs.Labels.{label-says, labelled}
 use Rattle.text.proofs.Laying.{line-short, laid-put}
 use Rattle.text.proofs.Putting.{put-none, put-long, put-as, put-then, put-few}
-use Rattle.run.specs.declared.visit.Seen.{Seen}
 use Rattle.run.specs.Visits.{visit-outputs, visit-table, visited, visit-line, visits-state, visits-lines}
 use Rattle.run.specs.Page.{visit-room}
 use Rattle.run.specs.Inner.{Visits, stop-at, blocks-state, blocks-lines, Turned, Turnable, Lined, InScan, Scannable, ScanMade}
@@ -60,9 +61,22 @@ module _ (k left count : ℕ) where
   pub stop-last : count ≤ k + left → count ≡ stop-at k left count
   stop-last l = sym (ap (λ (a : Bool). cond a (k + left) count) (le-ltb (k + left) count l))
 
+-- ---- a kind without a pointer shows none, whatever it is given
+module _ (kind x y : ℕ) where
+  none-shown : has-pointer kind ≡ false → pointer-field kind x ≡ pointer-field kind y
+  unfolding pointer-field
+  none-shown e = ap (λ (a : Bool). cond a (decimal x) (45 ∷ [])) e ∙ sym (ap (λ (a : Bool). cond a (decimal y) (45 ∷ [])) e)
+
+  pub none-before : kind < 5 → pointer-field kind x ≡ pointer-field kind y
+  none-before l = none-shown (ap (λ (a : Bool). a && leb kind 7) (lt-leb 5 kind l))
+
+  pub none-after : 7 < kind → pointer-field kind x ≡ pointer-field kind y
+  none-after l = none-shown (ap₂ (λ (a c : Bool). a && c) (le-leb 5 kind (omega (arith, l))) (lt-leb kind 7 l))
+
 -- ---- the line of a turn
-module _ {net : Network} {scan : ℕ} {state : List ℕ} {size : ℕ} {plan labels : List ℕ} {label k : ℕ} (T : Turned net scan state size plan labels label k) {seen : Seen} {left : List ℕ}
-    (did : Visits net k state seen left) {kind : ℕ} (q : kind ≡ getD plan (24 * k) 0) where
+module _ {net : Network} {scan : ℕ} {state : List ℕ} {size : ℕ} {plan labels : List ℕ} {label k : ℕ} (T : Turned net scan state size plan labels label k) {out : ℕ} {left : List ℕ}
+    (did : Visits net k state out left) {kind : ℕ} (q : kind ≡ getD plan (24 * k) 0) (pointer : ℕ)
+    (shows : pointer-field (block-of net k .kind) pointer ≡ pointer-field (block-of net k .kind) (pointer-of net (block-of net k) (visit-table net k state))) where
   kind-is : kind ≡ block-of net k .kind
   kind-is = q ∙ kind-of-step (T .stepped)
 
@@ -70,17 +84,17 @@ module _ {net : Network} {scan : ℕ} {state : List ℕ} {size : ℕ} {plan labe
   block-low = omega (arith, T .stepped .there, T .stepped .good .few)
 
   abbrev the-line : List ℕ
-  the-line = labelled-line label (getD labels k 0) (unpacked (seen .out)) (pointer-field kind (seen .pointer))
+  the-line = labelled-line label (getD labels k 0) (unpacked out) (pointer-field kind pointer)
 
   line-put : the-line ≡ visit-line net scan k state
   unfolding visit-line
   line-put =
-      labelled label (getD labels k 0) scan (k + 1) (unpacked (seen .out)) (pointer-field kind (seen .pointer))
+      labelled label (getD labels k 0) scan (k + 1) (unpacked out) (pointer-field kind pointer)
       (ap label-text (T .scan-label) ∙ label-says scan (omega (arith, T .scan-small)))
       (ap label-text (T .block-label) ∙ label-says (k + 1) (omega (arith, block-low)))
       ∙ ap₂ (line scan (k + 1))
       (ap unpacked (did .outputs) ∙ unpack-pack (visit-outputs net k state))
-      (ap (λ (x : ℕ). pointer-field x (seen .pointer)) kind-is ∙ did .pointer)
+      (ap (λ (x : ℕ). pointer-field x pointer) kind-is ∙ shows)
 
   line-room : length (visit-line net scan k state) ≤ visit-room
   unfolding visit-line

@@ -18,15 +18,13 @@ use Rattle.file.specs.File.{file-in, opened-file}
 use Rattle.blocks.specs.declared.{Power.Power, Outputs.Outputs, Located.Located}
 use Rattle.kinds.specs.Call.{work-answer, work-table}
 use Rattle.blocks.specs.Packed.{packed}
-use Rattle.scan.specs.Scans.{pointer-of}
-use Rattle.text.specs.Text.{pointer-field, label-of, longest-line}
+use Rattle.text.specs.Text.{label-of, longest-line}
 use Rattle.text.specs.Inner.{Put}
 use Rattle.plan.specs.declared.{Look.Look, Spot.Spot}
 use Rattle.plan.specs.Plan.{looks, spot, step-size, step-words, plan-of}
 use Rattle.plan.specs.Seen.{sees, spot-put}
-use Rattle.run.specs.declared.visit.Seen.{Seen}
 use Rattle.run.specs.declared.visits.Turn.{Turn}
-use Rattle.run.specs.Visits.{visit-outputs, visit-table, visited, visit-line, visits-state, visits-lines}
+use Rattle.run.specs.Visits.{visit-outputs, visited, visit-line, visits-state, visits-lines}
 use Rattle.run.specs.Bench.{visit-count}
 use Rattle.run.specs.Page.{visit-room, least-room, many, state-words, run-lines}
 
@@ -89,6 +87,12 @@ abbrev pub spots-put : List ℕ → List ℕ → ℕ → Outputs → List ℕ
 spots-put state plan i out =
     spot-put (spot-put (spot-put state (spot-in plan i) (out .top)) (spot-in plan (i + 2)) (out .middle)) (spot-in plan (i + 4)) (out .bottom)
 
+-- the pointer of a block whose kind has one: CMPR's stands at its middle node, the others' at their top node, or it is that node's constant
+abbrev pub shown-in : List ℕ → List ℕ → ℕ → ℕ
+shown-in state plan i =
+    cond (eqb (getD plan i 0) 5) (getD state (getD plan (i + 3) 0) 0)
+    (cond (eqb (getD plan (i + 4) 0) 9) (getD plan (i + 5) 0) (getD state (getD plan (i + 2) 0) 0))
+
 -- ---- what the functions ask for
 
 -- the step's numbers are there, and its looks are into a state of so many words
@@ -122,6 +126,13 @@ pub record AllSpotted (plan : List ℕ) (i words : ℕ) : Type 0 where
   pub middle : Spotted plan (i + 2) words
   pub bottom : Spotted plan (i + 4) words
 
+-- a pointer in a state of so many words
+pub record Showing (plan : List ℕ) (i words : ℕ) : Type 0 where
+  pub there : i + step-size ≤ length plan
+  pub number : getD plan (i + 5) 0 ≤ 65535
+  pub middle : getD plan i 0 ≡ 5 → getD plan (i + 3) 0 < words
+  pub top : (getD plan i 0 ≡ 5 → ⊥) → (getD plan (i + 4) 0 ≡ 9 → ⊥) → getD plan (i + 2) 0 < words
+
 -- block k + 1 of a network, whose step stands in the plan, and a state of the network's own
 pub record Planned (net : Network) (k : ℕ) (state plan : List ℕ) (size : ℕ) : Type 0 where
   pub good : GoodNetwork net
@@ -136,10 +147,9 @@ pub record Visitable (k : ℕ) (state plan : List ℕ) (size : ℕ) : Type 0 whe
   pub net : Network
   pub stepped : Planned net k state plan size
 
--- ---- what a visit does: it gives the block's outputs, packed, and the pointer that its line shows, and leaves the state
-pub record Visits (net : Network) (k : ℕ) (state : List ℕ) (seen : Seen) (after : List ℕ) : Type 0 where
-  pub outputs : seen .out ≡ packed (visit-outputs net k state)
-  pub pointer : pointer-field (block-of net k .kind) (seen .pointer) ≡ pointer-field (block-of net k .kind) (pointer-of net (block-of net k) (visit-table net k state))
+-- ---- what a visit does: it gives the block's outputs, packed, and leaves the state
+pub record Visits (net : Network) (k : ℕ) (state : List ℕ) (out : ℕ) (after : List ℕ) : Type 0 where
+  pub outputs : out ≡ packed (visit-outputs net k state)
   pub leaves : after ≡ visited net k state
 
 -- ---- whose turn it is: a visit by its scan and its block

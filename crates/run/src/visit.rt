@@ -1,4 +1,4 @@
-// The visit of a block: the power on its inputs, its work, its coils, its outputs into their place in the state, and its pointer.
+// The visit of a block: the power on its inputs, its work, its coils, its outputs into their place in the state; and its pointer.
 use blocks::Located;
 use blocks::Outputs;
 use blocks::Power;
@@ -10,18 +10,11 @@ use record::Inputs;
 use record::Node;
 ghost use mathlib.Core.Path.{_≡_};
 ghost use Prim.Native.Nat.{_+_, _≤_, _<_};
-ghost use lib.ListN.{length, getD, take};
+ghost use lib.ListN.{length, getD};
 ghost use Rattle.verdict.specs.Promise.{Leaves};
-ghost use Rattle.kinds.specs.Call.{pointer-shown};
 ghost use Rattle.network.specs.Network.{Network};
 ghost use Rattle.plan.specs.Seen.{sees, spot-put};
-ghost use Rattle.run.specs.Inner.{look-in, spot-in, power-seen, power-read, located-in, work-outputs, work-state, spots-put, Looking, Worded, Working, Spotted, AllSpotted, Planned, Visitable, Visits};
-
-// A block's outputs, packed, and its pointer; a kind without a pointer has 0.
-pub(crate) struct Seen {
-    pub(crate) out: u16,
-    pub(crate) pointer: u16,
-}
+ghost use Rattle.run.specs.Inner.{look-in, spot-in, power-seen, power-read, located-in, work-outputs, work-state, spots-put, shown-in, Looking, Worded, Working, Spotted, AllSpotted, Showing, Planned, Visitable, Visits};
 
 // Whether the look that stands in a plan from an index on sees power.
 fn sees(state: &[u16], plan: &[u32], i: usize) -> bool
@@ -138,23 +131,24 @@ fn put_spots(state: &mut [u16], plan: &[u32], i: usize, out: Outputs)
     put_spot(state, plan, i + 4, out.bottom);
 }
 
-// Its pointer, as the state's table has it; 0 for a kind without one.
-fn pointer(state: &[u16], size: usize, plan: &[u32], i: usize) -> u16
-    requires { ⌜ Worded (now plan) i × (size ≤ length (now state)) ⌝ }
-    ensures { λ r. ⌜ r ≡ pointer-shown (located-in (now (plan .entry)) i) (take size (now (state .entry))) ⌝ }
+// The pointer of a kind that has one: CMPR's stands at its middle node, the others' at their top node, or it is that node's constant.
+pub(crate) fn pointer(state: &[u16], plan: &[u32], i: usize) -> u16
+    requires { ⌜ Showing (now plan) i (length (now state)) ⌝ }
+    ensures { λ r. ⌜ r ≡ shown-in (now (state .entry)) (now (plan .entry)) i ⌝ }
 {
-    let kind = plan[i];
-    if kind < 5 {
-        return 0;
+    if plan[i] == 5 {
+        let at = plan[i + 3] as usize;
+        return state[at];
     }
-    if 7 < kind {
-        return 0;
+    if plan[i + 4] == 9 {
+        return plan[i + 5] as u16;
     }
-    kinds::pointer_of(&state[..size], located(plan, i))
+    let at = plan[i + 2] as usize;
+    state[at]
 }
 
-// The visit of the block after the first k, on a state whose table has so many words.
-pub(crate) fn visit(state: &mut [u16], size: usize, plan: &[u32], k: usize) -> Seen
+// The visit of the block after the first k, on a state whose table has so many words: its outputs, packed.
+pub(crate) fn visit(state: &mut [u16], size: usize, plan: &[u32], k: usize) -> u16
     requires { ⌜ Visitable k (now state) (now plan) size ⌝ }
     ensures { λ r. ⌜
         ((net : Network) → Planned net k (now (state .entry)) (now (plan .entry)) size → Visits net k (now (state .entry)) r (now (state .exit))) ⌝ }
@@ -164,8 +158,5 @@ pub(crate) fn visit(state: &mut [u16], size: usize, plan: &[u32], k: usize) -> S
     put_spots(state, plan, i + 15, out);
     let packed = blocks::packed(out);
     state[size + k] = packed;
-    Seen {
-        out: packed,
-        pointer: pointer(state, size, plan, i),
-    }
+    packed
 }

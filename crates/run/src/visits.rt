@@ -1,4 +1,5 @@
 // Visits one after the other, each with its line put into a lent buffer.
+use crate::visit::pointer;
 use crate::visit::visit;
 use lines::put_line;
 use network::MOST_BLOCKS;
@@ -76,9 +77,16 @@ fn visit_and_put(
         ((net : Network) (scan : ℕ) → Turned net scan (now (state .entry)) size (now (plan .entry)) (now (labels .entry)) label k →
         Lined net scan k (now (state .entry)) (now (text .entry)) at r (now (state .exit)) (now (text .exit))) ⌝ }
 {
-    let seen = visit(state, size, plan, k);
+    let out = visit(state, size, plan, k);
     let kind = plan[STEP * k] as u16;
-    put_line(text, at, label, labels[k], seen.out, kind, seen.pointer)
+    if kind < 5 {
+        return put_line(text, at, label, labels[k], out, kind, 0);
+    }
+    if 7 < kind {
+        return put_line(text, at, label, labels[k], out, kind, 0);
+    }
+    let shown = pointer(state, plan, STEP * k);
+    put_line(text, at, label, labels[k], out, kind, shown)
 }
 
 // The visits of a scan's blocks from one on, up to another, in the scan of a label.

@@ -1,58 +1,106 @@
--- `run::visit::pointer` meets its contract: a kind without a pointer shows 0. Assumes nothing.
-use mathlib.Core.Path.{refl, sym, ap, _∙_}
-use native.Mathlib.Omega.{arith}
-use denote.Ref.{now}
-use lib.ListN.{getD, take}
-use lib.Seq.{length-take-le}
-use Rattle.blocks.specs.declared.Located.{Located}
-use Rattle.kinds.specs.Call.{pointer-shown}
-use Rattle.kinds.proofs.ByKind.{no-pointer}
-use Rattle.run.specs.Inner.{located-in}
+-- `run::visit::pointer` meets its contract. Assumes nothing.
+use borrow.Author.Tests.{eq-eqb, ne-eqb}
 use borrow.Author.Needs.{needs}
 use Rattle.run.proofs.visit.pointer.Statement.{statement}
 use Rattle.run.proofs.visit.pointer.Tie as tie
 
-mul-kind : tie.Need-mul-kind
-mul-kind c = search needs
+mul-if1 : tie.Need-mul-if1
+mul-if1 c = search needs
 
-shared-slice-read-kind : tie.Need-shared-slice-read-kind
-shared-slice-read-kind c = search needs
+shared-slice-read-if1 : tie.Need-shared-slice-read-if1
+shared-slice-read-if1 c = search needs
+
+add-at : tie.Need-add-at
+add-at c = search needs
+
+mul-at : tie.Need-mul-at
+mul-at c = search needs
+
+shared-slice-read-at : tie.Need-shared-slice-read-at
+shared-slice-read-at c = search needs
+
+cast-at : tie.Need-cast-at
+cast-at c = search (needs, c .before .before .before .pre .middle (c .before .if1 .taken))
+
+mul-result : tie.Need-mul-result
+mul-result c = search (needs, c .before .before .before .pre .middle (c .before .if1 .taken))
+
+shared-slice-read-result : tie.Need-shared-slice-read-result
+shared-slice-read-result c = search (needs, c .before .before .before .before .pre .middle (c .before .before .if1 .taken))
 
 returns : tie.Need-returns
-returns c =
-    let x = c .before .before .before .before .args in
-    no-pointer (located-in (now (x .plan)) (x .i)) (take (x .size) (now (x .state))) (getD (now (x .plan)) (x .i) 0) refl
-    (λ e. omega (arith, c .if1 .taken)) (λ e. omega (arith, c .if1 .taken)) (λ e. omega (arith, c .if1 .taken))
+returns c = simp (eq-eqb _ _ (c .before .before .if1 .taken))
+
+add-if2 : tie.Need-add-if2
+add-if2 c = search needs
+
+mul-if2 : tie.Need-mul-if2
+mul-if2 c = search needs
+
+shared-slice-read-if2 : tie.Need-shared-slice-read-if2
+shared-slice-read-if2 c = search needs
+
+add-result : tie.Need-add-result
+add-result c = search needs
+
+mul-result-2 : tie.Need-mul-result-2
+mul-result-2 c = search needs
+
+shared-slice-read-result-2 : tie.Need-shared-slice-read-result-2
+shared-slice-read-result-2 c = search needs
+
+cast-result : tie.Need-cast-result
+cast-result c = search needs
 
 returns-2 : tie.Need-returns-2
-returns-2 c =
-    let x = c .before .before .before .before .before .args in
-    no-pointer (located-in (now (x .plan)) (x .i)) (take (x .size) (now (x .state))) (getD (now (x .plan)) (x .i) 0) refl
-    (λ e. omega (arith, c .if2 .taken)) (λ e. omega (arith, c .if2 .taken)) (λ e. omega (arith, c .if2 .taken))
+returns-2 c = simp (ne-eqb _ _ (c .before .before .before .if1 .left), eq-eqb _ _ (c .before .if2 .taken))
 
-slice-aggregate-pointer-of : tie.Need-slice-aggregate-pointer-of
-slice-aggregate-pointer-of c = let b = c .before .before .before .before .before .before in sym (length-take-le (b .args .size) (now (b .args .state)) (b .pre .1))
+add-at-2 : tie.Need-add-at-2
+add-at-2 c = search needs
 
-located-requires : tie.Need-located-requires
-located-requires c κs = search needs
+mul-at-2 : tie.Need-mul-at-2
+mul-at-2 c = search needs
 
-pointer-of-requires : tie.Need-pointer-of-requires
-pointer-of-requires c κs = search needs
+shared-slice-read-at-2 : tie.Need-shared-slice-read-at-2
+shared-slice-read-at-2 c = search needs
+
+cast-at-2 : tie.Need-cast-at-2
+cast-at-2 c = search (needs, c .before .before .before .before .before .pre .top (c .before .before .before .if1 .left) (c .before .if2 .left))
+
+mul-result-3 : tie.Need-mul-result-3
+mul-result-3 c = search (needs, c .before .before .before .before .before .pre .top (c .before .before .before .if1 .left) (c .before .if2 .left))
+
+shared-slice-read-result-3 : tie.Need-shared-slice-read-result-3
+shared-slice-read-result-3 c = search (needs, c .before .before .before .before .before .before .pre .top (c .before .before .before .before .if1 .left) (c .before .before .if2 .left))
 
 returns-3 : tie.Need-returns-3
-returns-3 c =
-    let x = c .before .before .before .before .before .before .before .before .args in
-    c .pointer-of .ensures ∙ ap (λ (one : Located). pointer-shown one (take (x .size) (now (x .state)))) (c .before .located .ensures)
+returns-3 c = simp (ne-eqb _ _ (c .before .before .before .before .if1 .left), ne-eqb _ _ (c .before .before .if2 .left))
 
 pub pointer-spec : {M : Type 1} → statement M
 pointer-spec =
     tie.close
     (tie.spec
-    mul-kind
-    shared-slice-read-kind
+    mul-if1
+    shared-slice-read-if1
+    add-at
+    mul-at
+    shared-slice-read-at
+    cast-at
+    mul-result
+    shared-slice-read-result
     returns
+    add-if2
+    mul-if2
+    shared-slice-read-if2
+    add-result
+    mul-result-2
+    shared-slice-read-result-2
+    cast-result
     returns-2
-    slice-aggregate-pointer-of
-    located-requires
-    pointer-of-requires
+    add-at-2
+    mul-at-2
+    shared-slice-read-at-2
+    cast-at-2
+    mul-result-3
+    shared-slice-read-result-3
     returns-3)

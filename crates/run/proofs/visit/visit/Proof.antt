@@ -1,10 +1,8 @@
 -- `run::visit::visit` meets its contract: work, coils, outputs and pointer are those of the visit of the network for which the plan is.
 -- Assumes nothing.
 use mathlib.Core.Path.{_∙_}
-use Prim.Native.Nat.{_+_}
-use native.Mathlib.Omega.{arith}
 use lib.ListN.{length-set}
-use Rattle.run.proofs.Following.{is-working, is-worded, all-spotted, visit-done}
+use Rattle.run.proofs.Following.{is-working, all-spotted, visit-done}
 use borrow.Author.Needs.{needs}
 use Rattle.run.proofs.visit.visit.Statement.{statement}
 use Rattle.run.proofs.visit.visit.Tie as tie
@@ -33,19 +31,14 @@ mul-state c = search needs
 slice-write-state : tie.Need-slice-write-state
 slice-write-state c = search needs
 
-pointer-requires : tie.Need-pointer-requires
-pointer-requires c κs =
-    let s = c .before .before .before .before .before .before .before .before .before .before .before .before .pre .stepped in
-    (is-worded s, omega (arith, s .sized, s .exact, length-set (c .before .before .before .before .put-spots .last .0) (c .before .before .before .before .before .before .before .before .before .before .before .before .args .size + c .before .before .before .before .before .before .before .before .before .before .before .before .args .k) (c .before .packed .result), c .before .before .before .state2 .given, c .before .before .before .before .before .before .before .state .given))
-
 same-length : tie.Need-same-length
-same-length c = length-set (c .before .before .before .before .before .put-spots .last .0) _ _ ∙ c .before .before .before .before .state2 .given ∙ c .before .before .before .before .before .before .before .before .state .given
+same-length c = length-set (c .before .before .before .put-spots .last .0) _ _ ∙ c .before .before .state2 .given ∙ c .before .before .before .before .before .before .state .given
 
 returns : tie.Need-returns
 returns c =
     λ net s.
-    visit-done s (c .before .before .before .before .before .before .before .before .before .work .ensures .leaves) (c .before .before .before .before .before .before .before .before .state .given) (λ k. c .before .before .before .before .before .before .before .slice-known2 .given k .fits) (c .before .before .before .before .before .before .before .before .before .work .ensures .answers)
-    (c .before .before .before .before .before .put-spots .ensures) (c .before .before .packed .ensures) (c .pointer .ensures)
+    visit-done s (c .before .before .before .before .before .before .before .work .ensures .leaves) (c .before .before .before .before .before .before .state .given) (λ k. c .before .before .before .before .before .slice-known2 .given k .fits) (c .before .before .before .before .before .before .before .work .ensures .answers)
+    (c .before .before .before .put-spots .ensures) (c .packed .ensures)
 
 pub visit-spec : {M : Type 1} → statement M
 visit-spec =
@@ -59,6 +52,5 @@ visit-spec =
     add-state
     mul-state
     slice-write-state
-    pointer-requires
     same-length
     returns)
