@@ -30,7 +30,7 @@ const SHORT_TEXT: usize = 27648;
 const SHORT: usize = 2000;
 
 // The bytes of text that are written at a time, where a run is long.
-const TEXT: usize = 161792;
+const TEXT: usize = 97280;
 
 // The bytes of one line, and the most that the line of a visit takes.
 const LINE: usize = 32;

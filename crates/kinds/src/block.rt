@@ -9,7 +9,6 @@ use matrix::Operation;
 use pointed::compare;
 use pointed::modify;
 use pointed::sense;
-ghost use mathlib.Core.Path.{_≡_};
 ghost use Rattle.verdict.specs.Promise.{Leaves};
 ghost use Rattle.kinds.specs.Call.{work-answer, work-table};
 

@@ -1,7 +1,8 @@
 -- The laws of a record's words: they spell it. Assumes nothing.
-use mathlib.Core.Path.{_≡_, refl, _∙_}
+use mathlib.Core.Path.{_≡_, refl, ap, _∙_}
 use mathlib.Core.List.{List, [], _∷_, _++_}
 use Prim.Native.Nat.{ℕ, _+_, _≤_}
+use native.Mathlib.Nat.{add-zero}
 use native.Mathlib.Omega.{arith}
 use lib.ListN.{length, drop}
 use Rattle.section.specs.Walk.{word}
@@ -45,6 +46,21 @@ module _ (ws : List ℕ) (i : ℕ) where
     };
     coils = record { top = part 12 0 j; middle = part 12 1 j; bottom = part 12 2 j };
   }
+
+-- words that are the same, each where it stands, spell the same record
+pub block-same : (ws : List ℕ) (i : ℕ) (vs : List ℕ) → ((k : ℕ) → word vs k ≡ word ws (i + k)) → block-from vs 0 ≡ block-from ws i
+block-same ws i vs same = λ j. record {
+  kind = (same 0 ∙ ap (word ws) (add-zero i)) j;
+  n = same 1 j;
+  top = record { class = same 2 j; number = same 3 j };
+  middle = record { class = same 4 j; number = same 5 j };
+  inputs = record {
+    top = record { code = same 6 j; number = same 7 j };
+    middle = record { code = same 8 j; number = same 9 j };
+    bottom = record { code = same 10 j; number = same 11 j };
+  };
+  coils = record { top = same 12 j; middle = same 13 j; bottom = same 14 j };
+}
 
 -- 15 words or more are those of the record that they spell, and what follows
 pub fifteen : (ws : List ℕ) → record-words ≤ length ws → spelled (block-in ws) ++ drop record-words ws ≡ ws

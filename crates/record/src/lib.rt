@@ -1,11 +1,11 @@
 // A block's record, and what record stands in the words from an index on.
 //
 // Any 15 words are a record. A word that is missing reads as 0.
-use section::word;
 ghost use mathlib.Core.Path.{_≡_};
-ghost use Prim.Native.Nat.{_+_, _≤_};
+ghost use Prim.Native.Nat.{ℕ, _+_, _≤_, _<_};
 ghost use lib.ListN.{length, drop};
-ghost use Rattle.record.specs.Record.{node-in, input-in, coils-in, block-in, block-from};
+ghost use Rattle.section.specs.Walk.{word};
+ghost use Rattle.record.specs.Record.{block-in, block-from};
 
 // A reference: its class (0, 1, 3 or 4, or 9 for a constant) and its number.
 pub struct Node {
@@ -40,57 +40,6 @@ pub struct Block {
     pub middle: Node,
     pub inputs: Inputs,
     pub coils: Coils,
-}
-
-// What stands so many words after an index: a node, an input, three coils.
-fn node_at(words: &[u16], at: u32, after: u32) -> Node
-    ensures { λ r. ⌜ r ≡ node-in (drop (at + after) (now (words .entry))) ⌝ }
-{
-    let i = at as usize + after as usize;
-    Node {
-        class: word(words, i),
-        number: word(words, i + 1),
-    }
-}
-
-fn input_at(words: &[u16], at: u32, after: u32) -> Input
-    ensures { λ r. ⌜ r ≡ input-in (drop (at + after) (now (words .entry))) ⌝ }
-{
-    let i = at as usize + after as usize;
-    Input {
-        code: word(words, i),
-        number: word(words, i + 1),
-    }
-}
-
-fn coils_at(words: &[u16], at: u32, after: u32) -> Coils
-    ensures { λ r. ⌜ r ≡ coils-in (drop (at + after) (now (words .entry))) ⌝ }
-{
-    let i = at as usize + after as usize;
-    Coils {
-        top: word(words, i),
-        middle: word(words, i + 1),
-        bottom: word(words, i + 2),
-    }
-}
-
-// The record whose words stand from an index on, one word after the other; any of them may be missing.
-fn part_block_at(words: &[u16], at: u32) -> Block
-    ensures { λ r. ⌜ r ≡ block-in (drop at (now (words .entry))) ⌝ }
-{
-    let i = at as usize;
-    Block {
-        kind: word(words, i),
-        n: word(words, i + 1),
-        top: node_at(words, at, 2),
-        middle: node_at(words, at, 4),
-        inputs: Inputs {
-            top: input_at(words, at, 6),
-            middle: input_at(words, at, 8),
-            bottom: input_at(words, at, 10),
-        },
-        coils: coils_at(words, at, 12),
-    }
 }
 
 // The record whose 15 words stand from an index on.
@@ -131,6 +80,20 @@ fn whole_block_at(words: &[u16], i: usize) -> Block
     }
 }
 
+// The 15 words from an index on, not all of which are there: a missing one is 0.
+fn padded(words: &[u16], i: usize) -> [u16; 15]
+    requires { ⌜ (i ≤ 4294967295) × (length (now words) < i + 15) ⌝ }
+    ensures { λ r. ⌜ ((k : ℕ) → word r k ≡ word (now (words .entry)) (i + k)) ⌝ }
+{
+    let mut fifteen = [0u16; 15];
+    let mut k = 0;
+    while i + k < words.len() {
+        fifteen[k] = words[i + k];
+        k += 1;
+    }
+    fifteen
+}
+
 // The record whose words stand from an index on: whether all are there is tested once.
 pub fn block_at(words: &[u16], at: u32) -> Block
     ensures { λ r. ⌜ r ≡ block-in (drop at (now (words .entry))) ⌝ }
@@ -139,5 +102,5 @@ pub fn block_at(words: &[u16], at: u32) -> Block
     if i + 15 <= words.len() {
         return whole_block_at(words, i);
     }
-    part_block_at(words, at)
+    whole_block_at(&padded(words, i), 0)
 }

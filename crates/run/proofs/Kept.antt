@@ -20,13 +20,13 @@ module _ (ws state : List ℕ) (from : ℕ) where
   unfolding run-went
   bad room h e =
       h
-      (ap (λ (b : Bool). cond b (went done (next-visit (file-in ws) (from + many (file-in ws) from room)) (length (page ws state from room))) (went (run-verdict ws (length state) from room) from 0) .verdict .number)
+      (ap (λ (b : Bool). cond b (went done (next-visit (file-in ws) (from + many (file-in ws) state from room)) (length (page ws state from room))) (went (run-verdict ws (length state) from room) from 0) .verdict .number)
       (eq-eqb (run-verdict ws (length state) from room .number) 0 e))
 
   state-kept : (room : ℕ) → (run-went ws state from room .verdict .number ≡ 0 → ⊥) → run-state ws state from room ≡ state
   unfolding run-state
   state-kept room h =
-      ap (λ (b : Bool). cond b (visits-state (file-in ws .network) from (many (file-in ws) from room) state) state) (ne-eqb (run-verdict ws (length state) from room .number) 0 (bad room h))
+      ap (λ (b : Bool). cond b (visits-state (file-in ws .network) from (many (file-in ws) state from room) state) state) (ne-eqb (run-verdict ws (length state) from room .number) 0 (bad room h))
 
   text-kept : (text : List ℕ) → (run-went ws state from (length text) .verdict .number ≡ 0 → ⊥) → run-text ws state from text ≡ text
   unfolding run-text

@@ -3,6 +3,7 @@
 pub mod Begun
 pub mod ByScans
 pub mod Determined
+pub mod Fitting
 pub mod Following
 pub mod Front
 pub mod Going

@@ -3,52 +3,44 @@
 use mathlib.Core.Path.{_≡_, refl, sym, ap, ap₂, _∙_, subst}
 use mathlib.Core.Bool.{Bool, true, false, cond, _&&_}
 use mathlib.Core.List.{List, [], _++_, append-assoc, append-nil}
-use Prim.Native.Nat.{ℕ, _+_, _-_, _*_, _/_, _≤_, _<_}
-use native.Mathlib.Decide.{decLt, ℕ-discrete}
+use Prim.Native.Nat.{ℕ, _+_, _-_, _≤_, _<_}
+use native.Mathlib.Decide.{ℕ-discrete}
 use native.Mathlib.Omega.{arith}
-use borrow.Author.Tests.{lt-ltb, le-ltb, le-leb, lt-leb, leb-true, eq-eqb, ne-eqb, eqb-true}
+use borrow.Author.Tests.{le-leb, lt-leb, leb-true, eq-eqb, ne-eqb, eqb-true}
 use lib.Dec.{leb, eqb}
 use lib.ListN.{length, take, drop, length-append, length-drop, replicate, length-replicate}
 use lib.Seq.{take-append-seam}
 use Rattle.verdict.specs.declared.Verdict.{Verdict}
 use Rattle.verdict.specs.Promise.{LeavesTwo}
 use Rattle.verdict.specs.Verdict.{verdict, done}
-use Rattle.section.proofs.Walk.{le-of-not-lt}
 use Rattle.network.specs.Network.{Network, block-count}
 use Rattle.file.specs.File.{File, table-words, file-in, file-checked}
 use Rattle.file.specs.Sound.{SoundFile}
 use Rattle.file.proofs.Accepted.{accepts-files}
-use Rattle.text.specs.Text.{head-line, end-line}
+use Rattle.text.specs.Text.{head-line, end-line, longest-line}
+use Rattle.text.proofs.Laying.{head-few}
 use Rattle.run.specs.declared.Went.{Went}
 use Rattle.run.specs.Visits.{visits-state, visits-lines}
 use Rattle.run.specs.Bench.{visit-count, file-text}
-use Rattle.run.specs.Page.{visit-room, ends, least-room, at-once, many, state-words, first-line, next-visit, page, run-verdict, run-lines, went, run-went, run-state, run-text}
+use Rattle.run.specs.Page.{least-room, many, state-words, first-line, next-visit, page, run-verdict, run-lines, went, run-went, run-state, run-text}
 use Rattle.run.specs.Calls.{Pages, PagesArePrinted, NeverStuck}
 use Rattle.run.specs.Calls.Pages.{no-more, one-more}
 use Rattle.run.proofs.Visiting.{lines-join}
+use Rattle.run.proofs.Fitting.{fits-few, fits-some}
 use Rattle.run.proofs.ByScans.{run-by-scans}
 
--- ---- how many visits
-module _ (room left : ℕ) where
-  pub at-once-fit : (room - ends) / visit-room < left → at-once room left ≡ (room - ends) / visit-room
-  unfolding at-once
-  at-once-fit l = simp (lt-ltb ((room - ends) / visit-room) left l)
+-- ---- how many visits: no more than are left, and with the least room at least one of them
+module _ (f : File) (state : List ℕ) (from room : ℕ) where
+  first-short : (a : Bool) → length (cond a (head-line (block-count (f .network)) (table-words f)) []) ≤ longest-line
+  first-short true = head-few (block-count (f .network)) (table-words f)
+  first-short false = omega arith
 
-  pub at-once-left : left ≤ (room - ends) / visit-room → at-once room left ≡ left
-  unfolding at-once
-  at-once-left l = simp (le-ltb ((room - ends) / visit-room) left l)
+  pub many-few : many f state from room ≤ visit-count f - from
+  many-few = fits-few (f .network) from (visit-count f - from) state (room - longest-line - length (first-line f from))
 
-  -- those that are made are left, and their lines fit into the buffer
-  pub record Fitting (m : ℕ) : Type 0 where
-    pub few : m ≤ left
-    pub bytes : ends ≤ room → ends + visit-room * m ≤ room
-    pub some : least-room ≤ room → 1 ≤ left → 1 ≤ m
-
-  pub fitting : Fitting (at-once room left)
-  fitting = elim (decLt ((room - ends) / visit-room) left) [
-    | yes l ↦ subst Fitting (sym (at-once-fit l)) (record { few = omega arith; bytes = λ u. omega arith; some = λ u v. omega arith })
-    | no l ↦ subst Fitting (sym (at-once-left (le-of-not-lt l))) (record { few = omega arith; bytes = λ u. omega (arith, le-of-not-lt l); some = λ u v. v })
-  ]
+  pub many-some : least-room ≤ room → 1 ≤ visit-count f - from → 1 ≤ many f state from room
+  many-some l u =
+      fits-some (f .network) from (visit-count f - from) state (room - longest-line - length (first-line f from)) (omega (arith, l, first-short (eqb from 0))) u
 
 -- ---- where to go on
 module _ (f : File) where
@@ -141,7 +133,7 @@ module _ (ws : List ℕ) (fine : file-checked ws false .number ≡ 0) where
       (s : LeavesTwo (run-went ws state from (length text)) (run-state ws state from (length text)) (run-text ws state from text) r left after)
       (then : rest ≡ left-text f left (r .next)) where
     abbrev m : ℕ
-    m = many f from (length text)
+    m = many f state from (length text)
 
     lines : List ℕ
     lines = page ws state from (length text)
@@ -150,14 +142,13 @@ module _ (ws : List ℕ) (fine : file-checked ws false .number ≡ 0) where
     unfolding run-went run-state run-text lines
     one-call true e =
         let g = goes state from text (eqb-true (run-verdict ws (length state) from (length text) .number) 0 e) in
-        let fits = fitting (length text) (visit-count f - from) in
         let answer : r ≡ went done (next-visit f (from + m)) (length lines) =
         s .answers ∙ ap (λ (a : Bool). cond a (went done (next-visit f (from + m)) (length lines)) (went (run-verdict ws (length state) from (length text)) from 0)) e in
         let there : left ≡ visits-state (f .network) from m state = s .leaves-one ∙ ap (λ (a : Bool). cond a (visits-state (f .network) from m state) state) e in
         let put : after ≡ lines ++ drop (length lines) text = s .leaves-other ∙ ap (λ (a : Bool). cond a (lines ++ drop (length lines) text) text) e in
         ap₂ (λ (k : ℕ) (x : List ℕ). take k x ++ rest) (ap (λ (w : Went). w .bytes) answer) put
         ∙ ap₂ _++_ (take-append-seam lines (drop (length lines) text)) (then ∙ ap₂ (left-text f) there (ap (λ (w : Went). w .next) answer))
-        ∙ page-left f state from m (g .0) (fits .few) (fits .some (g .1))
+        ∙ page-left f state from m (g .0) (many-few f state from (length text)) (many-some f state from (length text) (g .1))
     one-call false e =
         let v : Verdict = run-verdict ws (length state) from (length text) in
         let answer : r ≡ went v from 0 = s .answers ∙ ap (λ (a : Bool). cond a (went done (next-visit f (from + m)) (length lines)) (went v from 0)) e in
@@ -192,7 +183,7 @@ never-stuck ws fine state long from high room l = (ap (λ (v : Verdict). v .numb
     f = file-in ws
 
     m : ℕ
-    m = many f from room
+    m = many f state from room
 
     taken : run-verdict ws (length state) from room ≡ done
     taken =
@@ -205,9 +196,7 @@ never-stuck ws fine state long from high room l = (ap (λ (v : Verdict). v .numb
     further : from < next-visit f (from + m)
     further = elim (ℕ-discrete (from + m) (visit-count f)) [
       | yes e ↦ omega (arith, next-done f (from + m) e)
-      | no e ↦
-          let fits = fitting room (visit-count f - from) in
-          omega (arith, next-open f (from + m) e, fits .some l (omega (arith, e, high, fits .few)))
+      | no e ↦ omega (arith, next-open f (from + m) e, many-some f state from room l (omega (arith, e, high, many-few f state from room)))
     ]
 
 -- ---- what the program may rely on
@@ -228,7 +217,7 @@ bytes-fit ws state from text {r} {after} e put long = go (eqb (run-verdict ws (l
     lines = page ws state from (length text)
 
     next : ℕ
-    next = next-visit (file-in ws) (from + many (file-in ws) from (length text))
+    next = next-visit (file-in ws) (from + many (file-in ws) state from (length text))
 
     go : (a : Bool) → eqb (run-verdict ws (length state) from (length text) .number) 0 ≡ a → r .bytes ≤ length text
     go true q =

@@ -22,12 +22,12 @@ use Rattle.text.specs.Text.{head-line, end-line, longest-line, place-after, lai
 use Rattle.text.specs.Inner.{Put}
 use Rattle.text.proofs.Putting.{put-long, put-none, put-then, put-front, put-as}
 use Rattle.text.proofs.Laying.{head-few, end-few, laid-put}
-use Rattle.run.specs.declared.Went.{Went}
+use Rattle.run.specs.declared.{Went.Went, visits.Reached.Reached}
 use Rattle.run.specs.Visits.{visits-state, visits-lines}
 use Rattle.run.specs.Bench.{visit-count}
-use Rattle.run.specs.Page.{visit-room, ends, least-room, at-once, many, state-words, next-visit, page, run-verdict, run-lines, went, run-went, run-state, run-text}
-use Rattle.run.specs.Inner.{OpensFront, Ahead, Made, Taken, Done}
-use Rattle.run.proofs.Paging.{fitting, by-tests, next-done, next-open}
+use Rattle.run.specs.Page.{least-room, fitting, many, state-words, first-line, next-visit, page, run-verdict, run-lines, went, run-went, run-state, run-text}
+use Rattle.run.specs.Inner.{OpensFront, Ahead, fit, Made, Taken, Done}
+use Rattle.run.proofs.Paging.{many-few, by-tests, next-done, next-open}
 
 -- ---- the first line and the last
 module _ (text : List ℕ) where
@@ -54,7 +54,7 @@ module _ (text : List ℕ) where
       (laid-put at (end-line scans) text l (end-few scans) p)
 
 -- ---- a call that is not refused
-module _ {ws : List ℕ} {f : OpenedFile} {visits : ℕ} {state : List ℕ} {from m : ℕ} {text : List ℕ} (p : Taken ws f visits state from m text) where
+module _ {ws : List ℕ} {f : OpenedFile} {visits : ℕ} {state : List ℕ} {from : ℕ} {text : List ℕ} (p : Taken ws f visits state from text) where
   judges : file-checked ws false .number ≡ 0
   judges = ap (λ (x : OpenedFile). x .verdict .number) (sym (p .judged)) ∙ p .accepted
 
@@ -80,58 +80,62 @@ module _ {ws : List ℕ} {f : OpenedFile} {visits : ℕ} {state : List ℕ} {fro
   pub words-small : f .words ≤ 65535
   words-small = let z = sound .file .network .areas in omega (arith, words-is, z .coils, z .discretes, z .inputs, z .holding)
 
-  few : m ≤ visit-count (file-in ws) - from
-  few = omega (arith, p .so-many, fitting (length text) (visit-count (file-in ws) - from) .few)
-
-  room : ends + visit-room * m ≤ length text
-  room = subst (λ (k : ℕ). ends + visit-room * k ≤ length text) (sym (p .so-many)) (fitting (length text) (visit-count (file-in ws) - from) .bytes (omega (arith, p .enough)))
-
   -- no file has more visits than 1000 for each block
   visits-few : visit-count (file-in ws) ≤ 1000 * count
   visits-few = mul-le-mul-right {m = file-in ws .run} {n = 1000} count (sound .file .run-high)
 
-  pub next-small : from + m ≤ 128000
-  next-small = omega (arith, few, p .from-high, visits-few, sound .file .network .few)
-
   -- some visits are made of some blocks
   pub is-ahead : {c size : ℕ} {after : List ℕ} {bytes : List ℕ} {at : ℕ} → c ≡ f .network .count → size ≡ f .words → Put longest-line text 0 bytes at after
-      → (at ≤ length after) × OpensFront ws (f .network) × (0 < m → Ahead (network-in ws) c size state from m after at)
+      → (at + longest-line ≤ length after) × OpensFront ws (f .network) × (from < visits → Ahead (network-in ws) c size state from visits after at)
   is-ahead {c} {size} {after} {bytes} {at} a b q = (
-    omega (arith, put-long q, q .room),
+    room,
     record { opens = ap (λ (x : OpenedFile). x .network) (p .judged); accepted = front-fine ws false judges },
     λ l.
-        let have : 0 < count = omega (arith, l, few, visits-few) in
-        subst (λ (n : Network). Ahead n c size state from m after at) (network-is ws)
+        let have : 0 < count = omega (arith, l, p .all, visits-few) in
+        subst (λ (n : Network). Ahead n c size state from visits after at) (network-is ws)
         (record {
           good = sound .file .network;
           counted = a ∙ count-is;
           some = omega (arith, a, count-is, have);
           sized = b ∙ words-is;
           exact = p .exact;
-          scans = omega (arith, a, count-is, few, p .from-high, visits-few);
-          room = omega (arith, room, q .few, q .reaches, put-long q);
+          high = omega (arith, l);
+          scans = omega (arith, a, count-is, p .all, visits-few);
+          room = room;
         }),
   )
+    where
+      room : at + longest-line ≤ length after
+      room = omega (arith, p .enough, q .few, q .reaches, put-long q)
 
-  -- after them there is room for the last line
-  pub end-fits : {bytes lines after then : List ℕ} {at next : ℕ} → Put longest-line text 0 bytes at after → Put (visit-room * m) after at lines next then → next + longest-line ≤ length then
-  end-fits q r = omega (arith, room, put-long q, put-long r, q .few, q .reaches, r .few, r .reaches)
+  -- the visits that the code makes are those that the definition says
+  module _ {c size i : ℕ} {one : List ℕ} (a : c ≡ f .network .count) (b : size ≡ f .words) (x : Put longest-line text 0 (cond (eqb from 0) (head-line c size) []) i one) where
+    first-is : cond (eqb from 0) (head-line c size) [] ≡ first-line (file-in ws) from
+    first-is h = cond (eqb from 0) (head-line ((a ∙ count-is) h) ((b ∙ words-is) h)) []
 
-  pub all-done : {c size scans : ℕ} {one two three left : List ℕ} {i j k : ℕ} → c ≡ f .network .count → size ≡ f .words → scans ≡ f .scans
-      → Put longest-line text 0 (cond (eqb from 0) (head-line c size) []) i one
-      → Made (network-in ws) state from m one i j left two
-      → Put longest-line two j (cond (eqb (from + m) visits) (end-line scans) []) k three
-      → Done ws state from m text k left three
-  unfolding run-lines
-  all-done {c} {size} {scans} {one} {two} {three} {left} {i} {j} {k} a b s x y z =
-      let all = put-front (put-then (put-then x (y .puts)) z) in
-      let same : cond (eqb from 0) (head-line c size) [] ++ visits-lines (network-in ws) from m state ++ cond (eqb (from + m) visits) (end-line scans) [] ≡ run-lines (file-in ws) state from m =
-      λ h. cond (eqb from 0) (head-line ((a ∙ count-is) h) ((b ∙ words-is) h)) [] ++ visits-lines (sym (network-is ws) h) from m state ++ cond (eqb (from + m) (p .all h)) (end-line ((s ∙ scans-is) h)) [] in
-      record {
-        counted = all .0 ∙ ap length same;
-        leaves = y .leaves ∙ ap (λ (n : Network). visits-state n from m state) (sym (network-is ws));
-        puts = all .1 ∙ ap (λ (l : List ℕ). l ++ drop (length l) text) same;
-      }
+    as-many : fit (network-in ws) state from visits one i ≡ many (file-in ws) state from (length text)
+    as-many =
+        let placed : i ≡ length (first-line (file-in ws) from) = omega (arith, x .reaches, ap length first-is) in
+        let room : length one - longest-line - i ≡ length text - longest-line - length (first-line (file-in ws) from) =
+        ap₂ (λ (n k : ℕ). n - longest-line - k) (put-long x) placed in
+        λ h. fitting (sym (network-is ws) h) from (p .all h - from) state (room h)
+
+    pub all-done : {scans k : ℕ} {two three left : List ℕ} {r s : Reached} → scans ≡ f .scans → Made (network-in ws) state from visits one i r left two
+        → Put longest-line two (r .at) (cond (eqb (r .visit) visits) (end-line scans) []) k three → s .visit ≡ r .visit → s .at ≡ k
+        → Done ws state from text s left three
+    unfolding run-lines
+    all-done {scans} {k} {two} {three} {left} {r} {s} e y z v n =
+        let all = put-front (put-then (put-then x (y .puts)) z) in
+        let reached : r .visit ≡ from + many (file-in ws) state from (length text) = y .reaches ∙ ap (λ (m : ℕ). from + m) as-many in
+        let same : cond (eqb from 0) (head-line c size) [] ++ visits-lines (network-in ws) from (fit (network-in ws) state from visits one i) state ++ cond (eqb (r .visit) visits) (end-line scans) []
+        ≡ page ws state from (length text) =
+        λ h. first-is h ++ visits-lines (sym (network-is ws) h) from (as-many h) state ++ cond (eqb (reached h) (p .all h)) (end-line ((e ∙ scans-is) h)) [] in
+        record {
+          reaches = v ∙ reached;
+          counted = n ∙ all .0 ∙ ap length same;
+          leaves = y .leaves ∙ (λ h. visits-state (sym (network-is ws) h) from (as-many h) state);
+          puts = all .1 ∙ ap (λ (l : List ℕ). l ++ drop (length l) text) same;
+        }
 
 -- ---- the answer
 module _ (ws state : List ℕ) (from : ℕ) (text : List ℕ) where
@@ -139,7 +143,7 @@ module _ (ws state : List ℕ) (from : ℕ) (text : List ℕ) where
   Answers r left after = LeavesTwo (run-went ws state from (length text)) (run-state ws state from (length text)) (run-text ws state from text) r left after
 
   abbrev then : ℕ
-  then = next-visit (file-in ws) (from + many (file-in ws) from (length text))
+  then = next-visit (file-in ws) (from + many (file-in ws) state from (length text))
 
   refused : (v : Verdict) → run-verdict ws (length state) from (length text) ≡ v → (v .number ≡ 0 → ⊥) → Answers (went v from 0) state text
   unfolding run-went run-state run-text
@@ -150,7 +154,7 @@ module _ (ws state : List ℕ) (from : ℕ) (text : List ℕ) where
             sym
             (ap (λ (a : Bool). cond a (went done then (length (page ws state from (length text)))) (went (run-verdict ws (length state) from (length text)) from 0)) no
             ∙ ap (λ (x : Verdict). went x from 0) e);
-        leaves-one = sym (ap (λ (a : Bool). cond a (visits-state (file-in ws .network) from (many (file-in ws) from (length text)) state) state) no);
+        leaves-one = sym (ap (λ (a : Bool). cond a (visits-state (file-in ws .network) from (many (file-in ws) state from (length text)) state) state) no);
         leaves-other = sym (ap (λ (a : Bool). cond a (page ws state from (length text) ++ drop (length (page ws state from (length text))) text) text) no);
       }
 
@@ -212,39 +216,35 @@ module _ (ws state : List ℕ) (from : ℕ) (text : List ℕ) where
               pub bad-room : length text < least-room → Answers (went (verdict 12 0) from 0) state text
               bad-room h = short (by-tests ws (length state) from (length text) true true true false fine long (le-leb from (visit-count (file-in ws)) in-file) (lt-leb least-room (length text) h))
 
-              module _ (enough : least-room ≤ length text) {m : ℕ} (so-many : m ≡ at-once (length text) (visits - from)) where
-                as-many : m ≡ many (file-in ws) from (length text)
-                as-many = so-many ∙ ap (λ (k : ℕ). at-once (length text) (k - from)) same-visits
-
-                pub is-taken : Taken ws f visits state from m text
-                is-taken = record { judged = j; accepted = ok; all = same-visits; exact = exact ∙ same-words; from-high = in-file; so-many = as-many; enough = enough }
+              module _ (enough : least-room ≤ length text) where
+                pub is-taken : Taken ws f visits state from text
+                is-taken = record { judged = j; accepted = ok; all = same-visits; exact = exact ∙ same-words; from-high = in-file; enough = enough }
 
                 accepted : run-verdict ws (length state) from (length text) ≡ done
                 accepted = by-tests ws (length state) from (length text) true true true true fine long (le-leb from (visit-count (file-in ws)) in-file) (le-leb least-room (length text) enough)
 
-                answered : {bytes next : ℕ} {left after : List ℕ} → Done ws state from m text bytes left after → next ≡ next-visit (file-in ws) (from + m) → Answers (went (f .verdict) next bytes) left after
-                unfolding run-went run-state run-text
-                answered {bytes} {next} {left} {after} d e =
-                    let yes = ap (λ (x : Verdict). eqb (x .number) 0) accepted in
-                    let judged : f .verdict ≡ done = ap (λ (x : OpenedFile). x .verdict) j ∙ accepted-done ws false zero-number in
-                    let bytes-are : bytes ≡ length (page ws state from (length text)) = d .counted ∙ ap (λ (k : ℕ). length (run-lines (file-in ws) state from k)) as-many in
-                    let next-is : next ≡ then = e ∙ ap (λ (k : ℕ). next-visit (file-in ws) (from + k)) as-many in
-                    record {
-                      answers =
-                          (λ i. went (judged i) (next-is i) (bytes-are i))
-                          ∙ sym (ap (λ (a : Bool). cond a (went done then (length (page ws state from (length text)))) (went (run-verdict ws (length state) from (length text)) from 0)) yes);
-                      leaves-one =
-                          d .leaves
-                          ∙ ap (λ (k : ℕ). visits-state (file-in ws .network) from k state) as-many
-                          ∙ sym (ap (λ (a : Bool). cond a (visits-state (file-in ws .network) from (many (file-in ws) from (length text)) state) state) yes);
-                      leaves-other =
-                          d .puts
-                          ∙ ap (λ (k : ℕ). run-lines (file-in ws) state from k ++ drop (length (run-lines (file-in ws) state from k)) text) as-many
-                          ∙ sym (ap (λ (a : Bool). cond a (page ws state from (length text) ++ drop (length (page ws state from (length text))) text) text) yes);
-                    }
+                module _ {r : Reached} {left after : List ℕ} (d : Done ws state from text r left after) where
+                  pub reached-small : r .visit ≤ 128000
+                  reached-small = omega (arith, d .reaches, many-few (file-in ws) state from (length text), in-file, same-visits, times, visits-small)
 
-                pub at-end : {bytes : ℕ} {left after : List ℕ} → Done ws state from m text bytes left after → from + m ≡ visits → Answers (went (f .verdict) (from + m + 1) bytes) left after
-                at-end d e = answered d (sym (next-done (file-in ws) (from + m) (e ∙ same-visits)))
+                  answered : {next bytes : ℕ} → next ≡ next-visit (file-in ws) (r .visit) → bytes ≡ r .at → Answers (went (f .verdict) next bytes) left after
+                  unfolding run-went run-state run-text
+                  answered {next} {bytes} e b =
+                      let yes = ap (λ (x : Verdict). eqb (x .number) 0) accepted in
+                      let judged : f .verdict ≡ done = ap (λ (x : OpenedFile). x .verdict) j ∙ accepted-done ws false zero-number in
+                      let next-is : next ≡ then = e ∙ ap (next-visit (file-in ws)) (d .reaches) in
+                      record {
+                        answers =
+                            (λ i. went (judged i) (next-is i) ((b ∙ d .counted) i))
+                            ∙ sym (ap (λ (a : Bool). cond a (went done then (length (page ws state from (length text)))) (went (run-verdict ws (length state) from (length text)) from 0)) yes);
+                        leaves-one =
+                            d .leaves ∙ sym (ap (λ (a : Bool). cond a (visits-state (file-in ws .network) from (many (file-in ws) state from (length text)) state) state) yes);
+                        leaves-other =
+                            d .puts ∙ sym (ap (λ (a : Bool). cond a (page ws state from (length text) ++ drop (length (page ws state from (length text))) text) text) yes);
+                      }
 
-                pub goes-on : {bytes : ℕ} {left after : List ℕ} → Done ws state from m text bytes left after → (from + m ≡ visits → ⊥) → Answers (went (f .verdict) (from + m) bytes) left after
-                goes-on d h = answered d (sym (next-open (file-in ws) (from + m) (λ q. h (q ∙ sym same-visits))))
+                  pub at-end : r .visit ≡ visits → Answers (went (f .verdict) (r .visit + 1) (r .at)) left after
+                  at-end e = answered (sym (next-done (file-in ws) (r .visit) (e ∙ same-visits))) refl
+
+                  pub goes-on : (r .visit ≡ visits → ⊥) → Answers (went (f .verdict) (r .visit) (r .at)) left after
+                  goes-on h = answered (sym (next-open (file-in ws) (r .visit) (λ e. h (e ∙ sym same-visits)))) refl

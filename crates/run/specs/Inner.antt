@@ -23,10 +23,10 @@ use Rattle.text.specs.Inner.{Put}
 use Rattle.plan.specs.declared.{Look.Look, Spot.Spot}
 use Rattle.plan.specs.Plan.{looks, spot, step-size, step-words, plan-of}
 use Rattle.plan.specs.Seen.{sees, spot-put}
-use Rattle.run.specs.declared.visits.Turn.{Turn}
+use Rattle.run.specs.declared.visits.{Turn.Turn, Reached.Reached}
 use Rattle.run.specs.Visits.{visit-outputs, visited, visit-line, visits-state, visits-lines}
 use Rattle.run.specs.Bench.{visit-count}
-use Rattle.run.specs.Page.{visit-room, least-room, many, state-words, run-lines}
+use Rattle.run.specs.Page.{visit-room, least-room, fitting, many, state-words, page}
 
 -- ---- what a plan has from an index on
 
@@ -159,6 +159,10 @@ turn scan block = record { scan = scan; block = block }
 abbrev pub turn-at : ℕ → ℕ → Turn
 turn-at v count = turn (v / count + 1) (v % count)
 
+-- how many visits have room for whatever lines: those that are left, or fewer
+unfoldable pub at-once : ℕ → ℕ → ℕ
+at-once room left = cond (ltb (room / visit-room) left) (room / visit-room) left
+
 -- the blocks of a scan from one on: up to the last of so many visits, or up to the last block
 abbrev pub stop-at : ℕ → ℕ → ℕ → ℕ
 stop-at k left count = cond (ltb (k + left) count) (k + left) count
@@ -222,33 +226,40 @@ pub record OpensFront (ws : Words) (o : Opened) : Type 0 where
   pub opens : o ≡ leading ws
   pub accepted : front-checked ws .number ≡ 0
 
--- ---- so many visits from one on: a state of the network's own, and room for their lines and one more
-pub record Ahead (net : Network) (count size : ℕ) (state : List ℕ) (from many : ℕ) (text : Text) (at : ℕ) : Type 0 where
+-- ---- visits from one on, of so many in all: a state of the network's own, and room for one more line
+pub record Ahead (net : Network) (count size : ℕ) (state : List ℕ) (from all : ℕ) (text : Text) (at : ℕ) : Type 0 where
   pub good : GoodNetwork net
   pub counted : count ≡ block-count net
   pub some : 0 < count
   pub sized : size ≡ total (net .sizes)
   pub exact : length state ≡ total (net .sizes) + block-count net
-  pub scans : from + many ≤ count * 9998
-  pub room : at + visit-room * many + longest-line ≤ length text
+  pub high : from ≤ all
+  pub scans : all ≤ count * 9998
+  pub room : at + longest-line ≤ length text
 
--- the state is left as they leave it, and their lines are put
-pub record Made (net : Network) (state : List ℕ) (from many : ℕ) (text : Text) (at next : ℕ) (left after : List ℕ) : Type 0 where
-  pub leaves : left ≡ visits-state net from many state
-  pub puts : Put (visit-room * many) text at (visits-lines net from many state) next after
+-- how many of them fit, with room kept for one more line
+abbrev pub fit : Network → List ℕ → ℕ → ℕ → Text → ℕ → ℕ
+fit net state from all text at = fitting net from (all - from) state (length text - longest-line - at)
+
+-- the state is left as these leave it, and their lines are put
+pub record Made (net : Network) (state : List ℕ) (from all : ℕ) (text : Text) (at : ℕ) (r : Reached) (left after : List ℕ) : Type 0 where
+  pub reaches : r .visit ≡ from + fit net state from all text at
+  pub leaves : left ≡ visits-state net from (fit net state from all text at) state
+  pub puts : Put (length text) text at (visits-lines net from (fit net state from all text at) state) (r .at) after
+  pub room : r .at + longest-line ≤ length text
 
 -- ---- a call: a file, a state and a buffer with which it is not refused
-pub record Taken (ws : Words) (f : OpenedFile) (visits : ℕ) (state : List ℕ) (from m : ℕ) (text : Text) : Type 0 where
+pub record Taken (ws : Words) (f : OpenedFile) (visits : ℕ) (state : List ℕ) (from : ℕ) (text : Text) : Type 0 where
   pub judged : f ≡ opened-file ws false
   pub accepted : f .verdict .number ≡ 0
   pub all : visits ≡ visit-count (file-in ws)
   pub exact : length state ≡ state-words (file-in ws)
   pub from-high : from ≤ visit-count (file-in ws)
-  pub so-many : m ≡ many (file-in ws) from (length text)
   pub enough : least-room ≤ length text
 
--- the state after m visits, their lines at the front of the buffer, and how many bytes they are
-pub record Done (ws : Words) (state : List ℕ) (from m : ℕ) (text : Text) (bytes : ℕ) (left : List ℕ) (after : Text) : Type 0 where
-  pub counted : bytes ≡ length (run-lines (file-in ws) state from m)
-  pub leaves : left ≡ visits-state (file-in ws .network) from m state
-  pub puts : after ≡ run-lines (file-in ws) state from m ++ drop (length (run-lines (file-in ws) state from m)) text
+-- the visit that is reached, the state that is left, the lines at the front of the buffer, and how many bytes they are
+pub record Done (ws : Words) (state : List ℕ) (from : ℕ) (text : Text) (r : Reached) (left : List ℕ) (after : Text) : Type 0 where
+  pub reaches : r .visit ≡ from + many (file-in ws) state from (length text)
+  pub counted : r .at ≡ length (page ws state from (length text))
+  pub leaves : left ≡ visits-state (file-in ws .network) from (many (file-in ws) state from (length text)) state
+  pub puts : after ≡ page ws state from (length text) ++ drop (length (page ws state from (length text))) text

@@ -6,13 +6,14 @@
 mod visit;
 mod visits;
 
+use crate::visits::Reached;
+use crate::visits::VISIT_ROOM;
 use crate::visits::put_visits;
 use ends::put_end;
 use ends::put_head;
 use file::OpenedFile;
 use text::LONGEST_LINE;
 use verdict::Verdict;
-ghost use mathlib.Core.Path.{_≡_};
 ghost use mathlib.Core.Bool.{cond};
 ghost use mathlib.Core.List.{[]};
 ghost use Prim.Native.Nat.{_+_, _≤_};
@@ -21,7 +22,7 @@ ghost use lib.ListN.{length};
 ghost use Rattle.verdict.specs.Promise.{LeavesTwo};
 ghost use Rattle.text.specs.Text.{longest-line, head-line, end-line};
 ghost use Rattle.text.specs.Inner.{Put};
-ghost use Rattle.run.specs.Page.{ends, at-once, run-went, run-state, run-text};
+ghost use Rattle.run.specs.Page.{run-went, run-state, run-text};
 ghost use Rattle.run.specs.Inner.{Taken, Done};
 
 // The verdict, the visit to go on from, and how many bytes were put into the buffer. Past the last visit the run is at its end.
@@ -31,25 +32,8 @@ pub struct Went {
     pub bytes: usize,
 }
 
-// The bytes that the line of a visit may take in a run of at most 1000 scans, and those that the first line and the last may take.
-const VISIT_ROOM: usize = 21;
-
-const ENDS: usize = 2 * LONGEST_LINE;
-
-// The least room of a call.
-const LEAST_ROOM: usize = ENDS + VISIT_ROOM;
-
-// How many visits: those that are left, or as many as have lines that surely fit.
-fn at_once(room: usize, left: usize) -> usize
-    requires { ⌜ ends ≤ room ⌝ }
-    ensures { λ r. ⌜ r ≡ at-once room left ⌝ }
-{
-    let fit = (room - ENDS) / VISIT_ROOM;
-    if fit < left {
-        return fit;
-    }
-    left
-}
+// The least room of a call: for the first line, one visit, the last line.
+const LEAST_ROOM: usize = 2 * LONGEST_LINE + VISIT_ROOM;
 
 // The first line, before visit 0.
 fn put_first(text: &mut [u8], from: usize, count: u16, table: u16) -> usize
@@ -73,36 +57,37 @@ fn put_last(text: &mut [u8], at: usize, next: usize, visits: usize, scans: u16) 
     put_end(text, at, scans)
 }
 
-// So many visits of a file that was checked before, and their lines at the front of the buffer, with the first line and the last where they
-// stand; the answer is how many bytes.
+// The visits from one on of a file that was checked before, as many as surely fit, and their lines at the front of the buffer, with the
+// first line and the last where they stand.
 fn put_page(
     words: &[u16],
     file: OpenedFile,
     visits: usize,
     state: &mut [u16],
     from: usize,
-    many: usize,
     text: &mut [u8],
-) -> usize
-    requires { ⌜ Taken (now words) file visits (now state) from many (now text) ⌝ }
+) -> Reached
+    requires { ⌜ Taken (now words) file visits (now state) from (now text) ⌝ }
     ensures { λ r. ⌜
-        Done (now (words .entry)) (now (state .entry)) from many (now (text .entry)) r (now (state .exit)) (now (text .exit)) ⌝ }
+        Done (now (words .entry)) (now (state .entry)) from (now (text .entry)) r (now (state .exit)) (now (text .exit)) ⌝ }
 {
     let count = file.network.count();
     let size = file.words;
     let at = put_first(text, from, count, size as u16);
-    let at = put_visits(
+    let reached = put_visits(
         words,
         file.network,
         count as usize,
         size,
         state,
         from,
-        many,
+        visits,
         text,
         at,
     );
-    put_last(text, at, from + many, visits, file.scans)
+    let visit = reached.visit;
+    let at = put_last(text, reached.at, visit, visits, file.scans);
+    Reached { visit, at }
 }
 
 // As many of the file's visits as surely fit, from visit `from` on, on a state: their lines go to the front of the buffer, with the first
@@ -143,9 +128,9 @@ pub fn run(words: &[u16], state: &mut [u16], from: usize, text: &mut [u8]) -> We
     if text.len() < LEAST_ROOM {
         return short;
     }
-    let many = at_once(text.len(), visits - from);
-    let bytes = put_page(words, file, visits, state, from, many, text);
-    let next = from + many;
+    let reached = put_page(words, file, visits, state, from, text);
+    let next = reached.visit;
+    let bytes = reached.at;
     if next == visits {
         return Went {
             verdict,

@@ -7,14 +7,18 @@ use network::Opened;
 use plan::PLAN;
 use plan::STEP;
 use plan::put_plan;
+use text::LONGEST_LINE;
 use text::label;
 ghost use mathlib.Core.Path.{_≡_};
 ghost use Prim.Native.Nat.{ℕ, _+_, _-_, _/_, _≤_, _<_};
 ghost use lib.ListN.{length, getD};
 ghost use Rattle.network.specs.Network.{Network};
 ghost use Rattle.network.specs.Check.{network-in, most-blocks};
-ghost use Rattle.text.specs.Text.{label-of};
-ghost use Rattle.run.specs.Inner.{turn-at, stop-at, Turned, Turnable, Lined, InScan, Scannable, ScanMade, OpensFront, Ahead, Made};
+ghost use Rattle.text.specs.Text.{label-of, longest-line};
+ghost use Rattle.run.specs.Inner.{turn-at, at-once, stop-at, Turned, Turnable, Lined, InScan, Scannable, ScanMade, OpensFront, Ahead, Made};
+
+// The bytes that the line of a visit may take in a run of at most 1000 scans.
+pub(crate) const VISIT_ROOM: usize = 21;
 
 // What a plan is filled with where there is no block: no kind has this number.
 const NO_KIND: u32 = 9;
@@ -115,7 +119,25 @@ fn put_blocks(
     next
 }
 
-// So many visits from one on, and at least one, of an opened network, whose table has so many words: scan by scan.
+// How many visits have room for whatever lines: those that are left, or fewer.
+fn at_once(room: usize, left: usize) -> usize
+    ensures { λ r. ⌜ r ≡ at-once room left ⌝ }
+{
+    let fit = room / VISIT_ROOM;
+    if fit < left {
+        return fit;
+    }
+    left
+}
+
+// Where visits stopped: the visit to go on from, and the place after the last line.
+pub(crate) struct Reached {
+    pub(crate) visit: usize,
+    pub(crate) at: usize,
+}
+
+// The visits from one on, of so many in all, of an opened network, whose table has so many words: as long as a line surely fits and
+// one more behind it, scan by scan.
 fn make_visits(
     words: &[u16],
     o: Opened,
@@ -123,33 +145,43 @@ fn make_visits(
     size: usize,
     state: &mut [u16],
     from: usize,
-    many: usize,
+    all: usize,
     text: &mut [u8],
     at: usize,
-) -> usize
-    requires { ⌜ OpensFront (now words) o × Ahead (network-in (now words)) count size (now state) from many (now text) at ⌝ }
+) -> Reached
+    requires { ⌜ OpensFront (now words) o × Ahead (network-in (now words)) count size (now state) from all (now text) at ⌝ }
     ensures { λ r. ⌜
-        Made (network-in (now (words .entry))) (now (state .entry)) from many (now (text .entry)) at r (now (state .exit)) (now (text .exit)) ⌝ }
+        Made (network-in (now (words .entry))) (now (state .entry)) from all (now (text .entry)) at r (now (state .exit)) (now (text .exit)) ⌝ }
 {
     let mut plan = [NO_KIND; PLAN];
     put_plan(words, o, &mut plan);
     let labels = labels_of(count);
-    let turn = turn_of(from, count);
-    let mut scan = turn.scan;
-    let mut k = turn.block;
-    let mut left = many;
+    let room = text.len() - LONGEST_LINE;
+    let mut visit = from;
     let mut next = at;
-    while 0 < left {
-        let end = stop_at(k, left, count);
-        next = put_blocks(state, size, &plan, &labels, label(scan), k, end, text, next);
-        left -= end - k;
-        k = 0;
-        scan += 1;
+    let mut many = at_once(room - next, all - visit);
+    while 0 < many {
+        let turn = turn_of(visit, count);
+        let k = turn.block;
+        let end = stop_at(k, many, count);
+        next = put_blocks(
+            state,
+            size,
+            &plan,
+            &labels,
+            label(turn.scan),
+            k,
+            end,
+            text,
+            next,
+        );
+        visit += end - k;
+        many = at_once(room - next, all - visit);
     }
-    next
+    Reached { visit, at: next }
 }
 
-// So many visits from one on, or none.
+// The same, or none where none is left.
 pub(crate) fn put_visits(
     words: &[u16],
     o: Opened,
@@ -157,17 +189,18 @@ pub(crate) fn put_visits(
     size: usize,
     state: &mut [u16],
     from: usize,
-    many: usize,
+    all: usize,
     text: &mut [u8],
     at: usize,
-) -> usize
+) -> Reached
     requires { ⌜
-        (at ≤ length (now text)) × OpensFront (now words) o × (0 < many → Ahead (network-in (now words)) count size (now state) from many (now text) at) ⌝ }
+        (at + longest-line ≤ length (now text)) × OpensFront (now words) o
+        × (from < all → Ahead (network-in (now words)) count size (now state) from all (now text) at) ⌝ }
     ensures { λ r. ⌜
-        Made (network-in (now (words .entry))) (now (state .entry)) from many (now (text .entry)) at r (now (state .exit)) (now (text .exit)) ⌝ }
+        Made (network-in (now (words .entry))) (now (state .entry)) from all (now (text .entry)) at r (now (state .exit)) (now (text .exit)) ⌝ }
 {
-    if many == 0 {
-        return at;
+    if all <= from {
+        return Reached { visit: from, at };
     }
-    make_visits(words, o, count, size, state, from, many, text, at)
+    make_visits(words, o, count, size, state, from, all, text, at)
 }

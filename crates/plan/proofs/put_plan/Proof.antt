@@ -39,7 +39,10 @@ loop-holds c =
     )
 
 add-record-at : tie.Need-add-record-at Inv-loop μ-loop
-add-record-at c = search needs
+add-record-at c =
+    let x = c .before .before .before .before .before .before .before .args in
+    let v = c .before .loop .inv in
+    omega (arith, c .loop-test .taken, v .1, count-few (now (x .words)) (x .o) (now (x .plan)) (v .2))
 
 record-at-requires : tie.Need-record-at-requires Inv-loop μ-loop
 record-at-requires c κs = search needs

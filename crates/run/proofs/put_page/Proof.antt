@@ -1,7 +1,7 @@
 -- `run::put_page` meets its contract: the first line, the visits, the last line. Assumes nothing.
 use mathlib.Core.Path.{refl}
 use native.Mathlib.Omega.{arith}
-use Rattle.run.proofs.Running.{words-small, next-small, is-ahead, end-fits, all-done}
+use Rattle.run.proofs.Running.{words-small, is-ahead, all-done}
 use borrow.Author.Needs.{needs}
 use Rattle.run.proofs.put_page.Statement.{statement}
 use Rattle.run.proofs.put_page.Tie as tie
@@ -21,11 +21,8 @@ cast-put-visits c = search needs
 put-visits-requires : tie.Need-put-visits-requires
 put-visits-requires c κs = is-ahead (c .before .before .before .before .before .before .before .before .before .before .pre) (c .before .before .before .before .before .before .count .ensures) refl (c .before .before .before .before .put-first .ensures)
 
-add-put-last : tie.Need-add-put-last
-add-put-last c = omega (arith, next-small (c .before .before .before .before .before .before .before .before .before .before .before .before .before .before .before .before .pre))
-
 put-last-requires : tie.Need-put-last-requires
-put-last-requires c κs = end-fits (c .before .before .before .before .before .before .before .before .before .before .before .before .before .before .before .before .pre) (c .before .before .before .before .before .before .before .before .before .before .put-first .ensures) (c .before .before .before .before .before .put-visits .ensures .puts)
+put-last-requires c κs = search needs
 
 same-length : tie.Need-same-length
 same-length c = search needs
@@ -34,7 +31,7 @@ same-length-2 : tie.Need-same-length-2
 same-length-2 c = search needs
 
 returns : tie.Need-returns
-returns c = all-done (c .before .before .before .before .before .before .before .before .before .before .before .before .before .before .before .before .before .before .before .pre) (c .before .before .before .before .before .before .before .before .before .before .before .before .before .before .before .count .ensures) refl refl (c .before .before .before .before .before .before .before .before .before .before .before .before .before .put-first .ensures) (c .before .before .before .before .before .before .before .before .put-visits .ensures) (c .before .before .put-last .ensures)
+returns c = all-done (c .before .before .before .before .before .before .before .before .before .before .before .before .before .before .before .before .before .before .before .pre) (c .before .before .before .before .before .before .before .before .before .before .before .before .before .before .before .count .ensures) refl (c .before .before .before .before .before .before .before .before .before .before .before .before .before .put-first .ensures) refl (c .before .before .before .before .before .before .before .before .put-visits .ensures) (c .before .before .put-last .ensures) refl refl
 
 pub put-page-spec : {M : Type 1} → statement M
 put-page-spec =
@@ -45,7 +42,6 @@ put-page-spec =
     put-first-requires
     cast-put-visits
     put-visits-requires
-    add-put-last
     put-last-requires
     same-length
     same-length-2

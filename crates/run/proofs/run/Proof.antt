@@ -2,7 +2,7 @@
 use mathlib.Core.Path.{refl}
 use native.Mathlib.Omega.{arith}
 use denote.Ref.{now}
-use Rattle.run.proofs.Running.{bad-file, visits-small, state-small, bad-state, bad-visit, bad-room, is-taken, next-small, at-end, goes-on}
+use Rattle.run.proofs.Running.{bad-file, visits-small, state-small, bad-state, bad-visit, bad-room, is-taken, reached-small, at-end, goes-on}
 use borrow.Author.Needs.{needs}
 use Rattle.run.proofs.run.Statement.{statement}
 use Rattle.run.proofs.run.Tie as tie
@@ -37,17 +37,11 @@ returns-3 c = let x = c .before .before .before .before .before .before .before 
 returns-4 : tie.Need-returns-4
 returns-4 c = let x = c .before .before .before .before .before .before .before .before .before .before .before .before .before .args in let j = c .before .before .before .before .before .before .before .before .before .check .ensures in bad-room (now (x .words)) (now (x .state)) (x .from) (now (x .text)) j (c .before .before .before .before .before .before .if1 .left) (c .before .before .before .before .before .count .ensures) refl (c .before .before .if2 .left) (c .before .if3 .left) (c .if4 .taken)
 
-at-once-requires : tie.Need-at-once-requires
-at-once-requires c κs = search needs
-
 put-page-requires : tie.Need-put-page-requires
-put-page-requires c κs = let x = c .before .before .before .before .before .before .before .before .before .before .before .before .before .before .before .before .args in let j = c .before .before .before .before .before .before .before .before .before .before .before .before .check .ensures in is-taken (now (x .words)) (now (x .state)) (x .from) (now (x .text)) j (c .before .before .before .before .before .before .before .before .before .if1 .left) (c .before .before .before .before .before .before .before .before .count .ensures) refl (c .before .before .before .before .before .if2 .left) (c .before .before .before .before .if3 .left) (c .before .before .before .if4 .left) (c .before .before .at-once .ensures)
-
-add-next : tie.Need-add-next
-add-next c = let x = c .before .before .before .before .before .before .before .before .before .before .before .before .before .before .before .before .before .before .before .before .before .args in let j = c .before .before .before .before .before .before .before .before .before .before .before .before .before .before .before .before .before .check .ensures in omega (arith, next-small (is-taken (now (x .words)) (now (x .state)) (x .from) (now (x .text)) j (c .before .before .before .before .before .before .before .before .before .before .before .before .before .before .if1 .left) (c .before .before .before .before .before .before .before .before .before .before .before .before .before .count .ensures) refl (c .before .before .before .before .before .before .before .before .before .before .if2 .left) (c .before .before .before .before .before .before .before .before .before .if3 .left) (c .before .before .before .before .before .before .before .before .if4 .left) (c .before .before .before .before .before .before .before .at-once .ensures)))
+put-page-requires c κs = let x = c .before .before .before .before .before .before .before .before .before .before .before .before .before .before .before .args in let j = c .before .before .before .before .before .before .before .before .before .before .before .check .ensures in is-taken (now (x .words)) (now (x .state)) (x .from) (now (x .text)) j (c .before .before .before .before .before .before .before .before .if1 .left) (c .before .before .before .before .before .before .before .count .ensures) refl (c .before .before .before .before .if2 .left) (c .before .before .before .if3 .left) (c .before .before .if4 .left)
 
 add-t22 : tie.Need-add-t22
-add-t22 c = let x = c .before .before .before .before .before .before .before .before .before .before .before .before .before .before .before .before .before .before .before .before .before .before .args in let j = c .before .before .before .before .before .before .before .before .before .before .before .before .before .before .before .before .before .before .check .ensures in omega (arith, next-small (is-taken (now (x .words)) (now (x .state)) (x .from) (now (x .text)) j (c .before .before .before .before .before .before .before .before .before .before .before .before .before .before .before .if1 .left) (c .before .before .before .before .before .before .before .before .before .before .before .before .before .before .count .ensures) refl (c .before .before .before .before .before .before .before .before .before .before .before .if2 .left) (c .before .before .before .before .before .before .before .before .before .before .if3 .left) (c .before .before .before .before .before .before .before .before .before .if4 .left) (c .before .before .before .before .before .before .before .before .at-once .ensures)))
+add-t22 c = let x = c .before .before .before .before .before .before .before .before .before .before .before .before .before .before .before .before .before .before .before .before .before .args in let j = c .before .before .before .before .before .before .before .before .before .before .before .before .before .before .before .before .before .check .ensures in omega (arith, reached-small (now (x .words)) (now (x .state)) (x .from) (now (x .text)) j (c .before .before .before .before .before .before .before .before .before .before .before .before .before .before .if1 .left) (c .before .before .before .before .before .before .before .before .before .before .before .before .before .count .ensures) refl (c .before .before .before .before .before .before .before .before .before .before .if2 .left) (c .before .before .before .before .before .before .before .before .before .if3 .left) (c .before .before .before .before .before .before .before .before .if4 .left) (c .before .before .before .before .before .put-page .ensures))
 
 same-length : tie.Need-same-length
 same-length c = search needs
@@ -56,7 +50,7 @@ same-length-2 : tie.Need-same-length-2
 same-length-2 c = search needs
 
 returns-5 : tie.Need-returns-5
-returns-5 c = let x = c .before .before .before .before .before .before .before .before .before .before .before .before .before .before .before .before .before .before .before .before .before .before .args in let j = c .before .before .before .before .before .before .before .before .before .before .before .before .before .before .before .before .before .before .check .ensures in at-end (now (x .words)) (now (x .state)) (x .from) (now (x .text)) j (c .before .before .before .before .before .before .before .before .before .before .before .before .before .before .before .if1 .left) (c .before .before .before .before .before .before .before .before .before .before .before .before .before .before .count .ensures) refl (c .before .before .before .before .before .before .before .before .before .before .before .if2 .left) (c .before .before .before .before .before .before .before .before .before .before .if3 .left) (c .before .before .before .before .before .before .before .before .before .if4 .left) (c .before .before .before .before .before .before .before .before .at-once .ensures) (c .before .before .before .before .before .put-page .ensures) (c .if5 .taken)
+returns-5 c = let x = c .before .before .before .before .before .before .before .before .before .before .before .before .before .before .before .before .before .before .before .before .before .args in let j = c .before .before .before .before .before .before .before .before .before .before .before .before .before .before .before .before .before .check .ensures in at-end (now (x .words)) (now (x .state)) (x .from) (now (x .text)) j (c .before .before .before .before .before .before .before .before .before .before .before .before .before .before .if1 .left) (c .before .before .before .before .before .before .before .before .before .before .before .before .before .count .ensures) refl (c .before .before .before .before .before .before .before .before .before .before .if2 .left) (c .before .before .before .before .before .before .before .before .before .if3 .left) (c .before .before .before .before .before .before .before .before .if4 .left) (c .before .before .before .before .before .put-page .ensures) (c .if5 .taken)
 
 same-length-3 : tie.Need-same-length-3
 same-length-3 c = search needs
@@ -65,7 +59,7 @@ same-length-4 : tie.Need-same-length-4
 same-length-4 c = search needs
 
 returns-6 : tie.Need-returns-6
-returns-6 c = let x = c .before .before .before .before .before .before .before .before .before .before .before .before .before .before .before .before .before .before .before .before .before .before .args in let j = c .before .before .before .before .before .before .before .before .before .before .before .before .before .before .before .before .before .before .check .ensures in goes-on (now (x .words)) (now (x .state)) (x .from) (now (x .text)) j (c .before .before .before .before .before .before .before .before .before .before .before .before .before .before .before .if1 .left) (c .before .before .before .before .before .before .before .before .before .before .before .before .before .before .count .ensures) refl (c .before .before .before .before .before .before .before .before .before .before .before .if2 .left) (c .before .before .before .before .before .before .before .before .before .before .if3 .left) (c .before .before .before .before .before .before .before .before .before .if4 .left) (c .before .before .before .before .before .before .before .before .at-once .ensures) (c .before .before .before .before .before .put-page .ensures) (c .if5 .left)
+returns-6 c = let x = c .before .before .before .before .before .before .before .before .before .before .before .before .before .before .before .before .before .before .before .before .before .args in let j = c .before .before .before .before .before .before .before .before .before .before .before .before .before .before .before .before .before .check .ensures in goes-on (now (x .words)) (now (x .state)) (x .from) (now (x .text)) j (c .before .before .before .before .before .before .before .before .before .before .before .before .before .before .if1 .left) (c .before .before .before .before .before .before .before .before .before .before .before .before .before .count .ensures) refl (c .before .before .before .before .before .before .before .before .before .before .if2 .left) (c .before .before .before .before .before .before .before .before .before .if3 .left) (c .before .before .before .before .before .before .before .before .if4 .left) (c .before .before .before .before .before .put-page .ensures) (c .if5 .left)
 
 pub run-spec : {M : Type 1} → statement M
 run-spec =
@@ -81,9 +75,7 @@ run-spec =
     returns-2
     returns-3
     returns-4
-    at-once-requires
     put-page-requires
-    add-next
     add-t22
     same-length
     same-length-2
