@@ -4,6 +4,7 @@
 // All that is printed is put into a buffer by the library: what `put_refusal` put, or what the calls of `run` put one after the other.
 // That this is the text of the bytes is proved (`calls-print` of `run`), and that more bytes than are read would change nothing
 // (`front-is-enough`).
+use run::VISIT_ROOM;
 ghost use Prim.Native.Nat.{_≤_};
 ghost use mathlib.Core.Path.{_≡_};
 ghost use lib.ListN.{length};
@@ -32,10 +33,8 @@ const SHORT: usize = 2000;
 // The bytes of text that are written at a time, where a run is long.
 const TEXT: usize = 97280;
 
-// The bytes of one line, and the most that the line of a visit takes.
+// The bytes of one line.
 const LINE: usize = 32;
-
-const VISIT: usize = 21;
 
 // Where the program tells how it ended, in one byte.
 const TOLD_ON: i32 = 3;
@@ -160,7 +159,7 @@ fn print_long(words: &[u16], state: &mut [u16], visits: usize) -> bool
 fn print_all(words: &[u16], state: &mut [u16], visits: usize, text: &mut [u8]) -> bool
     requires { ⌜ Begun (now words) (length (now state)) visits × (least-room ≤ length (now text)) ⌝ }
 {
-    if visits <= text.len() / VISIT {
+    if visits <= text.len() / VISIT_ROOM {
         return print_run(words, state, visits, text);
     }
     if visits <= SHORT {

@@ -10,13 +10,12 @@ use native.Mathlib.Omega.{arith}
 use borrow.Author.Tests.{lt-ltb, le-ltb}
 use lib.ListN.{length, length-append}
 use Rattle.section.proofs.Walk.{le-of-not-lt}
-use Rattle.network.specs.Network.{Network, block-count, block-of}
+use Rattle.network.specs.Network.{Network, block-count}
 use Rattle.network.specs.Sound.{GoodNetwork}
-use Rattle.scan.specs.Scans.{pointer-of}
-use Rattle.text.proofs.Laying.{line-short}
-use Rattle.run.specs.Visits.{visit-outputs, visit-table, visited, visit-line, visits-state, visits-lines}
+use Rattle.run.specs.Visits.{visited, visit-line, visits-state, visits-lines}
 use Rattle.run.specs.Page.{visit-room, fitting}
 use Rattle.run.specs.Inner.{at-once}
+use Rattle.run.proofs.Visiting.{visit-short}
 
 -- ---- how many at once
 module _ (room left : ℕ) where
@@ -76,13 +75,10 @@ module _ (net : Network) where
 
   -- ---- several at once, of a good network and in scans that are not too high
   module _ (good : GoodNetwork net) (some : 0 < block-count net) where
-    visit-short : (v : ℕ) → v ≤ block-count net * 9998 → (state : List ℕ) → length (the-line v state) ≤ visit-room
-    unfolding visit-line
-    visit-short v l state =
+    the-line-short : (v : ℕ) → v ≤ block-count net * 9998 → (state : List ℕ) → length (the-line v state) ≤ visit-room
+    the-line-short v l state =
         let scan : v / block-count net ≤ 9998 = div-le-of-le-mul (block-count net) {m = v} {n = 9998} (omega (arith, l)) in
-        let block : v % block-count net < block-count net = mod-lt v some in
-        line-short (v / block-count net + 1) (v % block-count net + 1) (omega (arith, scan)) (omega (arith, block, good .few)) (visit-outputs net (v % block-count net) state)
-        (block-of net (v % block-count net) .kind) (pointer-of net (block-of net (v % block-count net)) (visit-table net (v % block-count net) state))
+        visit-short net (v / block-count net + 1) (v % block-count net) state (omega (arith, scan)) (omega (arith, mod-lt v some, good .few))
 
     pub visits-short : (v m : ℕ) (state : List ℕ) → v + m ≤ block-count net * 9998 → length (visits-lines net v m state) ≤ visit-room * m
     unfolding visits-lines
@@ -92,7 +88,7 @@ module _ (net : Network) where
           arith,
           length-append (visits-lines net v m state) (the-line (v + m) (visits-state net v m state)),
           visits-short v m state (omega (arith, l)),
-          visit-short (v + m) (omega (arith, l)) (visits-state net v m state),
+          the-line-short (v + m) (omega (arith, l)) (visits-state net v m state),
         )
 
     pub fits-on : (v left : ℕ) (state : List ℕ) (room : ℕ) → v + left ≤ block-count net * 9998 → (m : ℕ) → m ≤ left → visit-room * m ≤ room

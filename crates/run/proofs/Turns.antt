@@ -19,13 +19,13 @@ use Rattle.scan.proofs.Packing.{unpack-pack}
 use Rattle.text.specs.Text.{label-text, labelled-line, line, decimal, pointer-field, longest-line, place-after, laid}
 use Rattle.text.specs.Inner.{Put}
 use Rattle.text.proofs.Labels.{label-says, labelled}
-use Rattle.text.proofs.Laying.{line-short, laid-put}
+use Rattle.text.proofs.Laying.{laid-put}
 use Rattle.text.proofs.Putting.{put-none, put-long, put-as, put-then, put-few}
 use Rattle.run.specs.Visits.{visit-outputs, visit-table, visited, visit-line, visits-state, visits-lines}
 use Rattle.run.specs.Page.{visit-room}
 use Rattle.run.specs.Inner.{Visits, stop-at, blocks-state, blocks-lines, Turned, Turnable, Lined, InScan, Scannable, ScanMade}
 use Rattle.run.proofs.Following.{kind-of-step}
-use Rattle.run.proofs.Visiting.{scan-of, block-in-scan, visit-exact}
+use Rattle.run.proofs.Visiting.{scan-of, block-in-scan, visit-short, visit-exact}
 
 -- ---- the blocks of a scan are visits
 module _ (net : Network) (scans k : ℕ) (state : List ℕ) where
@@ -54,12 +54,12 @@ module _ (net : Network) (scans k : ℕ) (state : List ℕ) where
       λ i. row-lines m (omega (arith, l)) i ++ visit-line net (sym (scan-of-visit m u) i + 1) (sym (block-of-visit m u) i) (row-state m (omega (arith, l)) i)
 
 -- ---- where a scan's visits stop
-module _ (k left count : ℕ) where
-  pub stop-before : k + left < count → k + left ≡ stop-at k left count
-  stop-before l = sym (ap (λ (a : Bool). cond a (k + left) count) (lt-ltb (k + left) count l))
+module _ (k many count : ℕ) where
+  pub stop-before : k + many < count → k + many ≡ stop-at k many count
+  stop-before l = sym (ap (λ (a : Bool). cond a (k + many) count) (lt-ltb (k + many) count l))
 
-  pub stop-last : count ≤ k + left → count ≡ stop-at k left count
-  stop-last l = sym (ap (λ (a : Bool). cond a (k + left) count) (le-ltb (k + left) count l))
+  pub stop-last : count ≤ k + many → count ≡ stop-at k many count
+  stop-last l = sym (ap (λ (a : Bool). cond a (k + many) count) (le-ltb (k + many) count l))
 
 -- ---- a kind without a pointer shows none, whatever it is given
 module _ (kind x y : ℕ) where
@@ -97,10 +97,7 @@ module _ {net : Network} {scan : ℕ} {state : List ℕ} {size : ℕ} {plan labe
       (ap (λ (x : ℕ). pointer-field x pointer) kind-is ∙ shows)
 
   line-room : length (visit-line net scan k state) ≤ visit-room
-  unfolding visit-line
-  line-room =
-      line-short scan (k + 1) (omega (arith, T .scan-small)) (omega (arith, block-low)) (visit-outputs net k state) (block-of net k .kind)
-      (pointer-of net (block-of net k) (visit-table net k state))
+  line-room = visit-short net scan k state (omega (arith, T .scan-small)) (omega (arith, block-low))
 
   pub is-lined : {text after : List ℕ} {at next : ℕ} → Leaves (place-after at the-line text) (laid at the-line text) next after
       → Lined net scan k state text at next left after

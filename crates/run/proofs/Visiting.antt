@@ -1,7 +1,8 @@
--- The laws of visits: a visit by its scan and its block, the state that visits leave, and visits one after the other. Assumes nothing.
+-- The laws of visits: a visit by its scan and its block, the length of its line, the state that visits leave, and visits one after the
+-- other. Assumes nothing.
 use mathlib.Core.Path.{_≡_, sym, ap, ap₂, _∙_}
 use mathlib.Core.List.{List, _++_, append-assoc, append-nil}
-use Prim.Native.Nat.{ℕ, zero, suc, _+_, _*_, _/_, _%_, _<_}
+use Prim.Native.Nat.{ℕ, zero, suc, _+_, _*_, _/_, _%_, _≤_, _<_}
 use native.Mathlib.Nat.{add-comm, add-mul-div-right, add-mul-mod-self-right, div-eq-of-lt, mod-eq-of-lt, mod-lt}
 use native.Mathlib.Omega.{arith}
 use lib.ListN.{length, length-append, length-drop, length-set}
@@ -11,7 +12,10 @@ use Rattle.network.specs.Network.{Network, block-count, block-of}
 use Rattle.network.specs.Sound.{GoodNetwork}
 use Rattle.blocks.specs.Truths.{Runs}
 use Rattle.blocks.proofs.Written.{same-long}
-use Rattle.run.specs.Visits.{table-in, packs-in, visit-power, visit-table, visited, visit-line, visits-state, visits-lines}
+use Rattle.scan.specs.Scans.{pointer-of}
+use Rattle.text.proofs.Laying.{line-short}
+use Rattle.run.specs.Visits.{table-in, packs-in, visit-power, visit-outputs, visit-table, visited, visit-line, visits-state, visits-lines}
+use Rattle.run.specs.Page.{visit-room}
 
 -- ---- a visit's number, by the scans before it and the blocks before it in its scan
 module _ (count scans k : ℕ) (l : k < count) where
@@ -45,6 +49,12 @@ module _ (net : Network) (v m : ℕ) (state : List ℕ) where
       ∙ (λ i. lines-join n i ++ visit-line net (number i / block-count net + 1) (number i % block-count net) (states-join n i))
       ∙ append-assoc (visits-lines net v m state) (visits-lines net (v + m) n (visits-state net v m state))
       (visit-line net ((v + m + n) / block-count net + 1) ((v + m + n) % block-count net) (visits-state net (v + m) n (visits-state net v m state)))
+
+-- ---- a line is short, in scans and of blocks that are not too high
+pub visit-short : (net : Network) (s k : ℕ) (state : List ℕ) → s < 10000 → k + 1 < 1000 → length (visit-line net s k state) ≤ visit-room
+unfolding visit-line
+visit-short net s k state l u =
+    line-short s (k + 1) l u (visit-outputs net k state) (block-of net k .kind) (pointer-of net (block-of net k) (visit-table net k state))
 
 -- ---- a state is as long as before
 module _ (net : Network) (good : GoodNetwork net) where

@@ -165,7 +165,7 @@ at-once room left = cond (ltb (room / visit-room) left) (room / visit-room) left
 
 -- the blocks of a scan from one on: up to the last of so many visits, or up to the last block
 abbrev pub stop-at : ℕ → ℕ → ℕ → ℕ
-stop-at k left count = cond (ltb (k + left) count) (k + left) count
+stop-at k many count = cond (ltb (k + many) count) (k + many) count
 
 -- m blocks of a scan from block k + 1 on: the state after them, and their lines
 unfoldable pub blocks-state : Network → ℕ → ℕ → List ℕ → List ℕ

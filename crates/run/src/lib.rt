@@ -7,13 +7,13 @@ mod visit;
 mod visits;
 
 use crate::visits::Reached;
-use crate::visits::VISIT_ROOM;
 use crate::visits::put_visits;
 use ends::put_end;
 use ends::put_head;
 use file::OpenedFile;
 use text::LONGEST_LINE;
 use verdict::Verdict;
+pub use visits::VISIT_ROOM;
 ghost use mathlib.Core.Bool.{cond};
 ghost use mathlib.Core.List.{[]};
 ghost use Prim.Native.Nat.{_+_, _≤_};

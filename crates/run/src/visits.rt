@@ -18,7 +18,7 @@ ghost use Rattle.text.specs.Text.{label-of, longest-line};
 ghost use Rattle.run.specs.Inner.{turn-at, at-once, stop-at, Turned, Turnable, Lined, InScan, Scannable, ScanMade, OpensFront, Ahead, Made};
 
 // The bytes that the line of a visit may take in a run of at most 1000 scans.
-pub(crate) const VISIT_ROOM: usize = 21;
+pub const VISIT_ROOM: usize = 21;
 
 // What a plan is filled with where there is no block: no kind has this number.
 const NO_KIND: u32 = 9;
@@ -30,23 +30,23 @@ struct Turn {
 }
 
 // That of a visit, by its number.
-fn turn_of(from: usize, count: usize) -> Turn
-    requires { ⌜ (0 < count) × (from / count ≤ 65534) ⌝ }
-    ensures { λ r. ⌜ r ≡ turn-at from count ⌝ }
+fn turn_of(visit: usize, count: usize) -> Turn
+    requires { ⌜ (0 < count) × (visit / count ≤ 65534) ⌝ }
+    ensures { λ r. ⌜ r ≡ turn-at visit count ⌝ }
 {
     Turn {
-        scan: (from / count) as u16 + 1,
-        block: from % count,
+        scan: (visit / count) as u16 + 1,
+        block: visit % count,
     }
 }
 
-// Up to which block of its scan the visits go from block k + 1 on, where so many are left.
-fn stop_at(k: usize, left: usize, count: usize) -> usize
-    requires { ⌜ k + left ≤ 1000000000 ⌝ }
-    ensures { λ r. ⌜ r ≡ stop-at k left count ⌝ }
+// Up to which block of its scan the visits go from block k + 1 on, where so many have room.
+fn stop_at(k: usize, many: usize, count: usize) -> usize
+    requires { ⌜ k + many ≤ 1000000000 ⌝ }
+    ensures { λ r. ⌜ r ≡ stop-at k many count ⌝ }
 {
-    if k + left < count {
-        return k + left;
+    if k + many < count {
+        return k + many;
     }
     count
 }

@@ -11,10 +11,10 @@ add-result : tie.Need-add-result
 add-result c = search needs
 
 returns : tie.Need-returns
-returns c = let x = c .before .args in stop-before (x .k) (x .left) (x .count) (c .if1 .taken)
+returns c = let x = c .before .args in stop-before (x .k) (x .many) (x .count) (c .if1 .taken)
 
 returns-2 : tie.Need-returns-2
-returns-2 c = let x = c .before .args in stop-last (x .k) (x .left) (x .count) (c .if1 .left)
+returns-2 c = let x = c .before .args in stop-last (x .k) (x .many) (x .count) (c .if1 .left)
 
 pub stop-at-spec : {M : Type 1} → statement M
 stop-at-spec = tie.close (tie.spec add-if1 add-result returns returns-2)
