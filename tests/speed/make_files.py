@@ -228,6 +228,6 @@ def write(folder):
 
 
 if __name__ == "__main__":
-    if len(sys.argv) != 2:
+    if len(sys.argv) != 2 or sys.argv[1].startswith("-"):
         sys.exit(__doc__.splitlines()[0])
     write(sys.argv[1])
