@@ -318,6 +318,11 @@ def write_coil(table, number, bit):
 # ---- One scan -----------------------------------------------------------------------------------
 
 
+# What the scan's outputs record has of a block.
+# 02: "The scan's outputs record carries the count for every block"
+Record = namedtuple("Record", "top middle bottom count")
+
+
 # "Blocks run in order." "Each line: scan, block, top, middle, bottom, pointer when the block is done"
 def scan(blocks, table, number):
     outputs = []
@@ -334,7 +339,7 @@ def run_block(block, table, outputs):
     work = WORK[block.kind](read_all(block, table, powers))
     outputs_now = [powers[0], work.middle, work.bottom]  # "The top output equals the top input."
     write_all(block, table, work, outputs_now)
-    return outputs_now
+    return Record(*outputs_now, work.count)
 
 
 # "0 never, 1 always ...; 2 and 3 open and closed contact of a coil; 4 and 5 ... of a discrete input;
@@ -368,8 +373,9 @@ def closed_contact(bit):
 # What a block reads. `second` is the middle node's matrix; `moves` tells whether the pointer is in class 4.
 Read = namedtuple("Read", "size source second pointer moves top middle bottom")
 
-# What a block gives: two outputs, its destination's bits and its new pointer, None where nothing is written.
-Work = namedtuple("Work", "middle bottom destination pointer")
+# What a block gives: two outputs, its destination's bits and its new pointer, None where nothing is written, and a count.
+# 02: "0 without power"; "0 for the other kinds"
+Work = namedtuple("Work", "middle bottom destination pointer count", defaults=(0,))
 
 
 def read_all(block, table, powers):
@@ -454,10 +460,11 @@ def cmpr_block(read):
     reset = cmpr_reset(read)
     if not read.top:
         return Work(0, 0, None, reset)
-    position = differing(read.source, read.second, cmpr_start(read, reset))
+    start = cmpr_start(read, reset)
+    position = differing(read.source, read.second, start)
     if position is None:
-        return Work(0, 0, None, read.size)
-    return Work(1, read.source[position - 1], None, position)
+        return Work(0, 0, None, read.size, examined(start, read.size))
+    return Work(1, read.source[position - 1], None, position, examined(start, position))
 
 
 # "power on the middle input sets the pointer to 0 first, with or without power on top"
@@ -481,6 +488,11 @@ def differing(source, second, pointer):
         if source[position - 1] != second[position - 1]:
             return position
     return None
+
+
+# 02: "how many bit pairs it examined: the position reached less the pointer it started from after reset or wrap"
+def examined(start, reached):
+    return reached - start
 
 
 # "BROT: the source moved one position goes to the destination; power on middle means left (bit 2 into 1),
@@ -566,9 +578,10 @@ WORK = {
 # ---- The bench program --------------------------------------------------------------------------
 
 
-# "Each line: scan, block, top, middle, bottom, pointer"
-def line(scan_number, block_number, outputs, pointer):
-    return " ".join(str(part) for part in [scan_number, block_number, *outputs, pointer])
+# "Each line: scan, block, top, middle, bottom, pointer"; 02: "the bench prints it as a seventh field"
+def line(scan_number, block_number, record, pointer):
+    parts = [scan_number, block_number, record.top, record.middle, record.bottom, pointer, record.count]
+    return " ".join(str(part) for part in parts)
 
 
 # "pointer when the block is done (a constant prints itself; `-` for kinds without one)"

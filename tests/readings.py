@@ -449,25 +449,25 @@ reading("CMPR end waits", "a last bit that differs counts as the end: middle off
 reading("CMPR at 16n", "a pointer of 16n is not taken back to 0", "    if pointer >= read.size:\n", "    if pointer > read.size:\n")
 reading("CMPR over 16n", "a pointer over 16n is not taken back to 0", "    if pointer >= read.size:\n", "    if pointer == read.size:\n")
 reading("CMPR at 16n-1", "a pointer of 16n-1 counts as 0 too", "    if pointer >= read.size:\n", "    if pointer >= read.size - 1:\n")
-reading("CMPR none 0", "none found gives 0", "Work(0, 0, None, read.size)", "Work(0, 0, None, 0)")
-reading("CMPR none 16n+1", "none found gives 16n+1, as in the older 184/384", "Work(0, 0, None, read.size)", "Work(0, 0, None, read.size + 1)")
-reading("CMPR none keeps", "none found leaves the pointer", "Work(0, 0, None, read.size)", "Work(0, 0, None, reset)")
-reading("CMPR none on", "none found gives middle on", "Work(0, 0, None, read.size)", "Work(1, 0, None, read.size)")
+reading("CMPR none 0", "none found gives 0", "Work(0, 0, None, read.size,", "Work(0, 0, None, 0,")
+reading("CMPR none 16n+1", "none found gives 16n+1, as in the older 184/384", "Work(0, 0, None, read.size,", "Work(0, 0, None, read.size + 1,")
+reading("CMPR none keeps", "none found leaves the pointer", "Work(0, 0, None, read.size,", "Work(0, 0, None, reset,")
+reading("CMPR none on", "none found gives middle on", "Work(0, 0, None, read.size,", "Work(1, 0, None, read.size,")
 reading("CMPR wraps", "none found above the pointer: the search goes on from the start",
         "            return position\n    return None\n", "            return position\n    return differing(source, second, 0) if pointer else None\n")
 reading("CMPR bottom", "the bottom output shows the second matrix's bit", "return Work(1, read.source[position - 1]", "return Work(1, read.second[position - 1]")
 reading("CMPR bottom on", "the bottom output is on with every miscompare", "return Work(1, read.source[position - 1]", "return Work(1, 1")
-reading("CMPR bottom none", "the bottom output is on at the end", "Work(0, 0, None, read.size)", "Work(0, 1, None, read.size)")
+reading("CMPR bottom none", "the bottom output is on at the end", "Work(0, 0, None, read.size,", "Work(0, 1, None, read.size,")
 reading("CMPR reset powered", "the reset needs power on top", "    if read.middle:\n        return 0\n    return None\n", "    if read.middle and read.top:\n        return 0\n    return None\n")
 reading("CMPR reset unpowered", "the reset acts only without power on top", "    if read.middle:\n        return 0\n    return None\n", "    if read.middle and not read.top:\n        return 0\n    return None\n")
 reading("CMPR reset to 1", "the reset gives 1", "    if read.middle:\n        return 0\n    return None\n", "    if read.middle:\n        return 1\n    return None\n")
 reading("CMPR reset alone", "a reset scan does not compare", "    position = differing(",
         "    if reset is not None:\n        return Work(0, 0, None, reset)\n    position = differing(")
 reading("CMPR reset after", "the reset comes after the compare",
-        "    return Work(1, read.source[position - 1], None, position)", "    return Work(1, read.source[position - 1], None, position if reset is None else 0)")
+        "    return Work(1, read.source[position - 1], None, position,", "    return Work(1, read.source[position - 1], None, position if reset is None else 0,")
 reading("CMPR reset by bottom", "the bottom input resets", "    if read.middle:\n        return 0\n    return None\n", "    if read.bottom:\n        return 0\n    return None\n")
 reading("CMPR unpowered range", "a pointer over 16n is taken to 0 without power too",
-        "        return Work(0, 0, None, reset)\n    position", "        return Work(0, 0, None, reset if read.pointer < read.size else 0)\n    position")
+        "        return Work(0, 0, None, reset)\n    start", "        return Work(0, 0, None, reset if read.pointer < read.size else 0)\n    start")
 reading("CMPR reset in matrix", "the reset acts on a matrix word that holds the pointer",
         "    work = WORK[block.kind](", "    if block.kind == CMPR and powers[1]:\n        write_register(table, block.middle.number, 0)\n    work = WORK[block.kind](")
 reading("CMPR step in matrix", "the pointer's range acts on a matrix word that holds it",
@@ -475,7 +475,91 @@ reading("CMPR step in matrix", "the pointer's range acts on a matrix word that h
         "    if block.kind == CMPR and powers[0] and register(table, 4, block.middle.number) >= 16 * block.n:\n"
         "        write_register(table, block.middle.number, 0)\n    work = WORK[block.kind](")
 reading("CMPR matrix at pointer", "CMPR's matrix starts at the pointer's register", "return block.middle.number + 1", "return block.middle.number")
-reading("CMPR from 0", "positions count from 0", "    return Work(1, read.source[position - 1], None, position)", "    return Work(1, read.source[position - 1], None, position - 1)")
+reading("CMPR from 0", "positions count from 0", "    return Work(1, read.source[position - 1], None, position,", "    return Work(1, read.source[position - 1], None, position - 1,")
+
+# -------------------------------------------------------------------------------------------------
+part("the count")
+
+# Where the count is from, how it is made, of a miscompare and of none, without power, and in the record of every block.
+COUNT_FROM = "    start = cmpr_start(read, reset)\n    position = differing(read.source, read.second, start)\n"
+COUNT = "    return reached - start\n"
+COUNT_FOUND, COUNT_NONE = "examined(start, position))", "examined(start, read.size))"
+COUNT_OFF = "        return Work(0, 0, None, reset)\n    start"
+COUNT_RECORD = "    return Record(*outputs_now, work.count)\n"
+COUNT_FIELDS = "pointer, record.count]"
+
+
+def count_from(name, wrong, start):
+    """A reading whose count is from another pointer; a count under 0 is as a word has it."""
+    reading(name, wrong, COUNT_FROM, "    start = %s\n    position = differing(read.source, read.second, cmpr_start(read, reset))\n" % start,
+            COUNT, "    return (reached - start) % 65536\n")
+
+
+count_from("count before reset", "the count is from the pointer before the reset", "cmpr_start(read, None)")
+count_from("count before wrap", "the count is from the pointer before the wrap", "read.pointer if reset is None else reset")
+count_from("count before both", "the count is the pointer's change", "read.pointer")
+count_from("count at 16n", "the count does not take a pointer of 16n back to 0",
+           "read.pointer if read.pointer == read.size and reset is None else cmpr_start(read, reset)")
+count_from("count over 16n", "the count does not take a pointer over 16n back to 0",
+           "read.pointer if read.pointer > read.size and reset is None else cmpr_start(read, reset)")
+count_from("count from the rest", "the count of a pointer over 16n is from its remainder", "(read.pointer if reset is None else reset) % read.size")
+count_from("count from 1", "position 1 is not counted", "max(1, cmpr_start(read, reset))")
+reading("count reached", "the count is the position reached", COUNT, "    return reached\n")
+reading("count one less", "the position reached is not counted", COUNT, "    return reached - start - 1\n")
+reading("count one more", "the pointer's own position is counted too", COUNT, "    return reached - start + 1\n")
+reading("count of agreeing", "a pair that differs is not counted", COUNT_FOUND, "examined(start, position) - 1)")
+reading("count of differing", "only a pair that differs is counted", COUNT_FOUND, "1)", COUNT_NONE, "0)")
+reading("count of all differing", "every pair of the matrices that differs is counted",
+        COUNT_FOUND, "sum(a != b for a, b in zip(read.source, read.second)))",
+        COUNT_NONE, "sum(a != b for a, b in zip(read.source, read.second)))")
+reading("count of words", "words are counted", COUNT, "    return (reached + 15) // 16 - start // 16\n")
+reading("count by words", "every pair of a word that was read is counted", COUNT, "    return (reached + 15) // 16 * 16 - start // 16 * 16\n")
+reading("count of 16n", "every compare with power counts 16n", COUNT_FOUND, "read.size)", COUNT_NONE, "read.size)")
+reading("count to the end", "a miscompare counts the pairs to the end", COUNT_FOUND, "examined(start, read.size))")
+reading("count none 0", "none found counts 0", COUNT_NONE, "0)")
+reading("count none 16n", "none found counts 16n from any pointer", COUNT_NONE, "read.size)")
+reading("count none one less", "none found counts to 16n-1", COUNT_NONE, "examined(start, read.size - 1))")
+reading("count none one more", "none found counts to 16n+1, as in the older 184/384", COUNT_NONE, "examined(start, read.size + 1))")
+reading("count last bit", "a miscompare at the last bit counts 0, as an end", COUNT_FOUND, "examined(start, position) if position < read.size else 0)")
+reading("count reset 0", "a compare with a reset counts 0", COUNT_FOUND, "examined(start, position) if reset is None else 0)",
+        COUNT_NONE, "examined(start, read.size) if reset is None else 0)")
+reading("count in 8 bits", "the count goes to 255", COUNT, "    return (reached - start) % 256\n")
+reading("count in 10 bits", "the count goes to 1023", COUNT, "    return (reached - start) % 1024\n")
+reading("count unpowered", "a compare without power counts as one with power", COUNT_OFF,
+        "        reached = differing(read.source, read.second, cmpr_start(read, reset))\n"
+        "        return Work(0, 0, None, reset, examined(cmpr_start(read, reset), reached or read.size))\n    start")
+reading("count unpowered rest", "a compare without power counts the pairs above its pointer", COUNT_OFF,
+        "        return Work(0, 0, None, reset, examined(cmpr_start(read, reset), read.size))\n    start")
+reading("count reset unpowered", "a reset without power counts the positions that it goes back", COUNT_OFF,
+        "        return Work(0, 0, None, reset, 0 if reset is None else read.pointer)\n    start")
+reading("count reset unpowered 1", "a reset without power counts 1", COUNT_OFF, "        return Work(0, 0, None, reset, read.middle)\n    start")
+COUNT_KEPT = "    outputs = []\n    lines = []\n", "    outputs = []\n    lines = []\n    scan.counts = scan.counts if number > 1 else [0] * len(blocks)\n"
+COUNT_RAN = "        outputs.append(run_block(block, table, outputs))\n"
+reading("count kept", "a compare without power shows its last count", *COUNT_KEPT, COUNT_RAN,
+        COUNT_RAN + "        if outputs[-1].top:\n            scan.counts[len(outputs) - 1] = outputs[-1].count\n"
+        "        outputs[-1] = outputs[-1]._replace(count=scan.counts[len(outputs) - 1])\n")
+reading("count late", "a compare shows the count of the scan before", *COUNT_KEPT, COUNT_RAN,
+        COUNT_RAN + "        scan.counts.append(outputs[-1].count)\n        outputs[-1] = outputs[-1]._replace(count=scan.counts.pop(0))\n")
+reading("count summed", "the counts of the scans are added up", *COUNT_KEPT, COUNT_RAN,
+        COUNT_RAN + "        scan.counts[len(outputs) - 1] += outputs[-1].count\n"
+        "        outputs[-1] = outputs[-1]._replace(count=scan.counts[len(outputs) - 1])\n")
+reading("count of the scan", "the counts of a scan's blocks are added up", COUNT_RECORD,
+        "    return Record(*outputs_now, work.count + (outputs[-1].count if outputs else 0))\n")
+for kind in ("AND", "OR", "XOR", "COMP", "MBIT", "SENS", "BROT"):
+    reading("%s counts" % kind, "%s with power counts 16n" % kind, COUNT_RECORD,
+            "    return Record(*outputs_now, 16 * block.n if block.kind == %s and powers[0] else work.count)\n" % kind)
+for kind in ("MBIT", "SENS"):
+    reading("%s counts 1" % kind, "%s counts the bit at its pointer" % kind, COUNT_RECORD,
+            "    return Record(*outputs_now, 1 if block.kind == %s and powers[0] and not work.bottom else work.count)\n" % kind)
+reading("count before pointer", "the count is the sixth field, the pointer the seventh", COUNT_FIELDS, "record.count, pointer]")
+reading("no count", "there is no seventh field", COUNT_FIELDS, "pointer]")
+reading("count of compares only", "other kinds have no seventh field", COUNT_RECORD,
+        "    return Record(*outputs_now, work.count if block.kind == CMPR else None)\n",
+        COUNT_FIELDS, COUNT_FIELDS + "[: 6 if record.count is None else 7]")
+reading("count as dash", "other kinds print - as their count", COUNT_RECORD,
+        "    return Record(*outputs_now, work.count if block.kind == CMPR else \"-\")\n")
+reading("count as dash unpowered", "a compare without power prints - as its count", COUNT_RECORD,
+        "    return Record(*outputs_now, work.count if powers[0] or block.kind != CMPR else \"-\")\n")
 
 # -------------------------------------------------------------------------------------------------
 part("MBIT")

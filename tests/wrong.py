@@ -1,5 +1,5 @@
 #!/usr/bin/env python3
-"""Tells whether the generated files find each wrong reading of document 01 (readings.py).
+"""Tells whether the generated files find each wrong reading of documents 01 and 02 (readings.py).
 
 Use: tests/wrong.py [--seed S] [--count N] [--jobs J] [--enough E] [--table]
 Each reading is an edit of model.py's text; the edited model and the model run the same files.

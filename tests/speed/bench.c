@@ -406,11 +406,11 @@ static inline uint32_t power(const struct input *in) {
     return (uint32_t)((state[in->at] & in->mask) != 0) ^ in->flip;
 }
 
-/* The block's work and its coils; the outputs, top worth 1, middle 2, bottom 4. */
+/* The block's work and its coils; the outputs, top worth 1, middle 2, bottom 4, and each pair that a compare examined worth 8. */
 static inline uint32_t run_block(const struct block *b) {
     uint32_t top = power(&b->on[0]), middle = power(&b->on[1]), bottom = power(&b->on[2]);
     uint32_t n = b->n, size = 16 * n, s = b->source, d = b->destination, p = b->pointer;
-    uint32_t shown = 0, last = 0;
+    uint32_t shown = 0, last = 0, examined = 0;
     switch (b->kind) {
     case CMPR:
         if (top) {
@@ -418,7 +418,9 @@ static inline uint32_t run_block(const struct block *b) {
             uint32_t found = first_difference(s, d, n, at);
             shown = found != 0;
             last = found != 0 && bit_at(s, found);
-            state[p] = (uint16_t)(found != 0 ? found : size);
+            uint32_t reached = found != 0 ? found : size;
+            state[p] = (uint16_t)reached;
+            examined = reached - at;
         } else if (middle) {
             state[p] = 0;
         }
@@ -468,7 +470,7 @@ static inline uint32_t run_block(const struct block *b) {
     put_bit(b->coil[0].at, b->coil[0].mask, top);
     put_bit(b->coil[1].at, b->coil[1].mask, shown);
     put_bit(b->coil[2].at, b->coil[2].mask, last);
-    return top | shown << 1 | last << 2;
+    return top | shown << 1 | last << 2 | examined << 3;
 }
 
 static void decode(void) {
@@ -510,14 +512,21 @@ static void run(void) {
             *to++ = ' ';
             to = put_number(to, k + 1);
             *to++ = ' ';
-            memcpy(to, outputs[out], sizeof outputs[out]);
+            memcpy(to, outputs[out % 8], sizeof outputs[out % 8]);
             to += 6;
-            if (CMPR <= b->kind && b->kind <= SENS) {
+            if (b->kind == CMPR) {
                 to = put_number(to, state[b->pointer]);
+                *to++ = ' ';
+                to = put_number(to, out / 8);
+                *to++ = '\n';
+            } else if (b->kind == MBIT || b->kind == SENS) {
+                to = put_number(to, state[b->pointer]);
+                memcpy(to, " 0\n", 4);
+                to += 3;
             } else {
-                *to++ = '-';
+                memcpy(to, "- 0\n", 4);
+                to += 4;
             }
-            *to++ = '\n';
             held = (size_t)(to - text);
         }
     }

@@ -47,7 +47,7 @@ pub by-effect : (on : Power) (d n p : ℕ) (t : List ℕ) (r : Outputs) (table :
 by-effect on d n p t r table q = subst (λ (x : Effect). Did on x d n p t r table) (sym q)
 
 -- nothing is done
-pub idle-does : (on : Power) (d n p : ℕ) (t : List ℕ) → Did on (idle none) d n p t (shows (on .top) false false) t
+pub idle-does : (on : Power) (d n p : ℕ) (t : List ℕ) → Did on (idle none) d n p t (shows (on .top) false false 0) t
 unfolding matrix-put change-put
 idle-does on d n p t = record { answers = refl; leaves = refl }
 

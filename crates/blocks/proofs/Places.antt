@@ -15,7 +15,6 @@ use Rattle.bits.proofs.Matrix.{matrix-length}
 use Rattle.matrix.specs.declared.logic.Operation.{Operation}
 use Rattle.matrix.specs.declared.logic.Operation.the-variants.{And, Or, Xor, Comp}
 use Rattle.search.specs.Search.{first-differing}
-use Rattle.pointer.specs.Pointer.{in-range}
 use Rattle.record.specs.declared.Node.{Node}
 use Rattle.record.specs.declared.Block.{Block}
 use Rattle.rules.specs.declared.rules.Classes.{Classes}
@@ -29,7 +28,7 @@ use Rattle.rules.proofs.KindFacts.{Writable, KindFacts, accepted-means}
 use Rattle.blocks.specs.declared.Power.{Power}
 use Rattle.blocks.specs.Kind.{kind-of}
 use Rattle.blocks.specs.View.{View, first-word, view}
-use Rattle.blocks.specs.Effect.{Change, Effect, effect, into, increased, logic, zeroed, found, compare, rotate, modify, at-one, left-at-one, sense, effect-of}
+use Rattle.blocks.specs.Effect.{Change, Effect, effect, into, increased, logic, zeroed, starts-at, reaching, found, compare, rotate, modify, at-one, left-at-one, sense, effect-of}
 use Rattle.blocks.specs.Work.{pointer-node, one-word, effect-on}
 use Rattle.blocks.specs.Effect.Change.{stays, becomes, puts}
 use Rattle.blocks.specs.Truths.{Runs}
@@ -66,6 +65,10 @@ made : {D : Type 0} {P : List ℕ → Type 0} (n : ℕ) (d : Change) {p : Option
     → Makes D n d → Each P (one-word p) → Writes D P n (effect d p middle bottom)
 made n d h k = record { destination = h; pointer = k }
 
+reached : {D : Type 0} {P : List ℕ → Type 0} {n : ℕ} → ((w : ℕ) → P (w ∷ [])) → (from to : ℕ) {middle bottom : Bool}
+    → Writes D P n (reaching from to middle bottom)
+reached h from to = record { destination = tt; pointer = any-word h (some to) }
+
 either : {D : Type 0} {P : List ℕ → Type 0} {n : ℕ} {x y : Effect} (c : Bool) → Writes D P n x → Writes D P n y → Writes D P n (cond c x y)
 either true h k = h
 either false h k = k
@@ -87,16 +90,16 @@ module _ {D : Type 0} {P : List ℕ → Type 0} (n : ℕ) (v : View) (on : Power
   unfolding rotate
   rotate-writes h = either (on .top) (made n (becomes (matrix n _)) (h, matrix-length n _) nothing) (made n stays tt nothing)
 
-  found-writes : ((w : ℕ) → P (w ∷ [])) → (o : Option ℕ) → Writes D P n (found n v o)
+  found-writes : ((w : ℕ) → P (w ∷ [])) → (from : ℕ) (o : Option ℕ) → Writes D P n (found n v from o)
   unfolding found
-  found-writes h none = made n stays tt (any-word h (some (16 * n)))
-  found-writes h (some p) = made n stays tt (any-word h (some p))
+  found-writes h from none = reached h from (16 * n)
+  found-writes h from (some p) = reached h from p
 
   compare-writes : ((w : ℕ) → P (w ∷ [])) → Writes D P n (compare n v on)
   unfolding compare
   compare-writes h =
       either (on .top)
-      (found-writes h (first-differing (v .source) (v .destination) n (in-range (zeroed n v on) .at)))
+      (found-writes h (starts-at n v on) (first-differing (v .source) (v .destination) n (starts-at n v on)))
       (made n stays tt (any-word h (cond (on .middle) (some (zeroed n v on .at)) none)))
 
   module _ (held : Bool) (h : held ≡ true → (w : ℕ) → P (w ∷ [])) where

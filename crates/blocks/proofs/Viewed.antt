@@ -25,7 +25,7 @@ use Rattle.blocks.specs.declared.Power.{Power}
 use Rattle.blocks.specs.Kind.{Kind, kind-of}
 use Rattle.blocks.specs.Kind.Kind.{AND, OR, XOR, COMP, CMPR, MBIT, SENS, BROT}
 use Rattle.blocks.specs.View.{View, seen, view}
-use Rattle.blocks.specs.Effect.{Effect, effect, idle, into, increased, logic, found, compare, rotate, modify, sense, effect-of}
+use Rattle.blocks.specs.Effect.{Effect, effect, idle, into, increased, reaching, logic, found, compare, rotate, modify, sense, effect-of}
 use Rattle.blocks.specs.Effect.Change.{stays, becomes}
 use Rattle.blocks.specs.Work.{pointer-node, effect-on}
 use Rattle.blocks.specs.Truths.{SameFrom, source-at, destination-at, pointer-seen, Agree}
@@ -79,26 +79,26 @@ module _ (n : ℕ) (v w : View) (same : SameView n v w) (on : Power) where
       (leaves-same l (on .middle))
 
   -- ---- CMPR
-  found-same : (k i : ℕ) → ((p : ℕ) → i < p → p ≤ i + k → p ≤ 16 * n)
-      → found n v (first (differing (v .source) (v .destination)) i k) ≡ found n w (first (differing (w .source) (w .destination)) i k)
+  found-same : (from k i : ℕ) → ((p : ℕ) → i < p → p ≤ i + k → p ≤ 16 * n)
+      → found n v from (first (differing (v .source) (v .destination)) i k) ≡ found n w from (first (differing (w .source) (w .destination)) i k)
   unfolding found first
-  found-same zero i h = refl
-  found-same (suc k) i h =
+  found-same from zero i h = refl
+  found-same from (suc k) i h =
       let inside : suc i ≤ 16 * n = h (suc i) (omega arith) (omega arith) in
-      next inside (differing (v .source) (v .destination) (suc i)) _ _ (found-same k (suc i) (λ p l u. h p (omega arith) (omega arith)))
-      ∙ ap (λ (a : Bool). found n w (cond a (some (suc i)) (first (differing (w .source) (w .destination)) (suc i) k)))
+      next inside (differing (v .source) (v .destination) (suc i)) _ _ (found-same from k (suc i) (λ p l u. h p (omega arith) (omega arith)))
+      ∙ ap (λ (a : Bool). found n w from (cond a (some (suc i)) (first (differing (w .source) (w .destination)) (suc i) k)))
       (ap₂ xor (same .source (suc i) (omega arith) inside) (same .destination (suc i) (omega arith) inside))
     where
-      next : suc i ≤ 16 * n → (a : Bool) (r s : Option ℕ) → found n v r ≡ found n w s → found n v (cond a (some (suc i)) r) ≡ found n w (cond a (some (suc i)) s)
-      next l true r s e = ap (effect stays (some (suc i)) true) (same .source (suc i) (omega arith) l)
+      next : suc i ≤ 16 * n → (a : Bool) (r s : Option ℕ) → found n v from r ≡ found n w from s → found n v from (cond a (some (suc i)) r) ≡ found n w from (cond a (some (suc i)) s)
+      next l true r s e = ap (reaching from (suc i) true) (same .source (suc i) (omega arith) l)
       next l false r s e = e
 
   compare-same : compare n v on ≡ compare n w on
   unfolding compare
   compare-same =
-      ap (λ (x : ℕ). cond (on .top) (found n v (sought v (begins x))) (idle (cond (on .middle) (some (zero-first x .at)) none))) (same .pointer)
+      ap (λ (x : ℕ). cond (on .top) (found n v (begins x) (sought v (begins x))) (idle (cond (on .middle) (some (zero-first x .at)) none))) (same .pointer)
       ∙ ap (λ (e : Effect). cond (on .top) e (idle (cond (on .middle) (some (zero-first (w .pointer) .at)) none)))
-      (found-same (16 * n - begins (w .pointer)) (begins (w .pointer)) (λ p l u. omega arith))
+      (found-same (begins (w .pointer)) (16 * n - begins (w .pointer)) (begins (w .pointer)) (λ p l u. omega arith))
     where
       zero-first : ℕ → Pointer
       zero-first x = cond (on .middle) (reset (into n x) 0) (into n x)

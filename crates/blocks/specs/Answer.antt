@@ -11,7 +11,7 @@ use Rattle.blocks.specs.Effect.{Effect}
 use Rattle.blocks.specs.Work.{effect-put, shows, outputs}
 
 abbrev pub no-outputs : Outputs
-no-outputs = shows false false false
+no-outputs = shows false false false 0
 
 -- a block that has done its work, and one that is refused
 abbrev pub finished : Outputs → Worked

@@ -1,6 +1,6 @@
--- What a block is to write, and its two lower outputs, by its kind's rule (document 01, "One scan"): from what it has read and
--- the power on its inputs. Assumes nothing.
-use Prim.Native.Nat.{ℕ, _*_}
+-- What a block is to write, its two lower outputs and its count, by its kind's rule (document 01, "One scan"; document 02, ticket 3): from
+-- what it has read and the power on its inputs. Assumes nothing.
+use Prim.Native.Nat.{ℕ, _-_, _*_}
 use mathlib.Core.Bool.{Bool, true, false, cond, _&&_}
 use mathlib.Core.Option.{Option, none, some}
 use lib.Dec.{eqb, ltb}
@@ -24,16 +24,19 @@ pub data Change : Type 0 where
   becomes : Matrix → Change
   puts : ℕ → Bool → Change
 
--- what happens to the destination; what the pointer becomes, none where it stays; the middle and the bottom output
+-- what happens to the destination; what the pointer becomes, none where it stays; the middle and the bottom output; how many bit pairs
+-- were examined
 pub record Effect : Type 0 where
   pub destination : Change
   pub pointer : Option ℕ
   pub middle : Bool
   pub bottom : Bool
+  pub count : ℕ
 
+-- no kind but CMPR examines pairs
 abbrev pub effect : Change → Option ℕ → Bool → Bool → Effect
 effect destination pointer middle bottom =
-    record { destination = destination; pointer = pointer; middle = middle; bottom = bottom }
+    record { destination = destination; pointer = pointer; middle = middle; bottom = bottom; count = 0 }
 
 -- nothing is done but that the pointer becomes what a reset makes of it
 abbrev pub idle : Option ℕ → Effect
@@ -55,17 +58,26 @@ logic operation n v on =
 abbrev pub zeroed : ℕ → View → Power → Pointer
 zeroed n v on = cond (on .middle) (reset (into n (v .pointer)) 0) (into n (v .pointer))
 
--- Found: the pointer is that position, middle on, bottom shows the source's bit. None: pointer 16n, middle and bottom off.
-unfoldable pub found : ℕ → View → Option ℕ → Effect
-found n v none = effect stays (some (16 * n)) false false
-found n v (some p) = effect stays (some p) true (bit (v .source) p)
+-- With power, a pointer of 16n or more counts as 0: the pointer that the compare starts from, after reset or wrap.
+abbrev pub starts-at : ℕ → View → Power → ℕ
+starts-at n v on = in-range (zeroed n v on) .at
 
--- With power, a pointer of 16n or more counts as 0, and the first differing position above the pointer is sought.
+-- The pointer becomes the position reached; the count is that position less the pointer it started from.
+abbrev pub reaching : ℕ → ℕ → Bool → Bool → Effect
+reaching from to middle bottom =
+    record { destination = stays; pointer = some to; middle = middle; bottom = bottom; count = to - from }
+
+-- Found: the pointer is that position, middle on, bottom shows the source's bit. None: pointer 16n, middle and bottom off.
+unfoldable pub found : ℕ → View → ℕ → Option ℕ → Effect
+found n v from none = reaching from (16 * n) false false
+found n v from (some p) = reaching from p true (bit (v .source) p)
+
+-- With power the first differing position above the start is sought.
 unfoldable pub compare : ℕ → View → Power → Effect
 unfolding found first in-range reset
 compare n v on =
     cond (on .top)
-    (found n v (first-differing (v .source) (v .destination) n (in-range (zeroed n v on) .at)))
+    (found n v (starts-at n v on) (first-differing (v .source) (v .destination) n (starts-at n v on)))
     (idle (cond (on .middle) (some (zeroed n v on .at)) none))
 
 -- BROT: the source moved one position goes to the destination; power on middle means left, power on bottom that the bit

@@ -1,7 +1,7 @@
 -- What is true of a block of an accepted network (document 01, "One scan"): which bits it writes, that it changes nothing else
--- and no input, that MBIT touches one bit and what its middle output and its lamp show (document 02, ticket 2), the key rule, and when a
--- compare reports none. Assumes nothing.
-use Prim.Native.Nat.{ℕ, _+_, _-_, _*_, _≤_, _<_}
+-- and no input, that MBIT touches one bit and what its middle output and its lamp show (document 02, ticket 2), the key rule, when a
+-- compare reports none, and what it counts (document 02, ticket 3). Assumes nothing.
+use Prim.Native.Nat.{ℕ, zero, suc, _+_, _-_, _*_, _≤_, _<_}
 use mathlib.Core.Path.{_≡_}
 use mathlib.Core.Logic.{_↔_, _⊎_}
 use mathlib.Core.Bool.{Bool, true, false, cond, _&&_}
@@ -10,8 +10,7 @@ use lib.Dec.{eqb, leb, ltb}
 use lib.ListN.{length}
 use Rattle.verdict.specs.Lists.{Table, Matrix}
 use Rattle.bits.specs.Bit.{bit}
-use Rattle.search.specs.Search.{NoneLater}
-use Rattle.pointer.specs.Pointer.{in-range}
+use Rattle.search.specs.Search.{differing, first, NoneLater}
 use Rattle.record.specs.declared.Block.{Block}
 use Rattle.network.specs.Network.{Network}
 use Rattle.table.specs.Table.{total}
@@ -20,7 +19,7 @@ use Rattle.blocks.specs.declared.Power.{Power}
 use Rattle.blocks.specs.Kind.{Kind, kind-of}
 use Rattle.blocks.specs.Kind.Kind.{AND, OR, XOR, COMP, CMPR, MBIT, SENS, BROT}
 use Rattle.blocks.specs.View.{View, first-word, pointer-in}
-use Rattle.blocks.specs.Effect.{Change, Effect, idle, zeroed, compare}
+use Rattle.blocks.specs.Effect.{Change, Effect, idle, starts-at, compare}
 use Rattle.blocks.specs.Effect.Change.{stays, becomes, puts}
 use Rattle.blocks.specs.Work.{pointer-node, one-word, effect-on, block-outputs, block-table}
 
@@ -191,7 +190,7 @@ pub record Agree (net : Network) (b : Block) (t u : Table) : Type 0 where
   pub on-pointer : pointer-seen (kind-of (b .kind)) net b t ≡ pointer-seen (kind-of (b .kind)) net b u
 
 -- two tables that agree on a block's source, on its destination matrix where the kind is AND, OR, XOR, CMPR or MBIT, and on its
--- pointer, with equal three inputs, give equal outputs and equal values in every bit that the block writes
+-- pointer, with equal three inputs, give equal outputs, the count among them, and equal values in every bit that the block writes
 abbrev pub KeyRule : Type 0
 KeyRule =
     (net : Network) (earlier : ℕ) (b : Block) (t u : Table) → Runs net earlier b t → Runs net earlier b u → Agree net b t u → (on : Power) →
@@ -205,4 +204,38 @@ KeyRule =
 abbrev pub NoneMeansNone : Type 0
 NoneMeansNone =
     (n : ℕ) (v : View) (on : Power) → on .top ≡ true →
-    (compare n v on .middle ≡ false) ↔ NoneLater (v .source) (v .destination) n (in-range (zeroed n v on) .at)
+    (compare n v on .middle ≡ false) ↔ NoneLater (v .source) (v .destination) n (starts-at n v on)
+
+-- ---- the count
+
+-- a search that found nothing
+abbrev pub in-vain : Option ℕ → Bool
+in-vain none = true
+in-vain (some p) = false
+
+-- a pair of bits is examined: its position is above the start, and at none between the two do the matrices differ
+abbrev pub looked-at : View → ℕ → ℕ → Bool
+looked-at v from p = ltb from p && in-vain (first (differing (v .source) (v .destination)) from (p - 1 - from))
+
+-- at how many of the positions 1 to k a predicate is on
+unfoldable pub how-many : (ℕ → Bool) → ℕ → ℕ
+how-many f zero = 0
+how-many f (suc k) = how-many f k + cond (f (suc k)) 1 0
+
+-- what a compare counts is the pairs that it examines; without power it is 0
+abbrev pub CountsPairs : Type 0
+CountsPairs =
+    (n : ℕ) (v : View) (on : Power) → compare n v on .count ≡ cond (on .top) (how-many (looked-at v (starts-at n v on)) (16 * n)) 0
+
+-- at most 16n
+abbrev pub CountAtMost : Type 0
+CountAtMost = (net : Network) (b : Block) (t : Table) (on : Power) → block-outputs net b t on .count ≤ 16 * b .n
+
+-- and 0 for the other kinds
+abbrev pub OnlyComparesCount : Type 0
+OnlyComparesCount = (net : Network) (b : Block) (t : Table) → (b .kind ≡ 5 → ⊥) → (on : Power) → block-outputs net b t on .count ≡ 0
+
+-- so that of a block that the checker takes it has room in a packed number
+abbrev pub CountFits : Type 0
+CountFits =
+    (net : Network) (earlier : ℕ) (b : Block) (t : Table) → GoodBlock (net .sizes) earlier b → (on : Power) → block-outputs net b t on .count < 8192

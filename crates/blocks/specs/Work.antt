@@ -62,19 +62,19 @@ effect-as kind b v on = effect-of kind (eqb (pointer-node kind b .class) 4) (b .
 abbrev pub effect-on : Network → Block → Table → Power → Effect
 effect-on net b t on = effect-as (kind-of (b .kind)) b (view (kind-of (b .kind)) net b t) on
 
-abbrev pub shows : Bool → Bool → Bool → Outputs
-shows top middle bottom = record { top = top; middle = middle; bottom = bottom }
+abbrev pub shows : Bool → Bool → Bool → ℕ → Outputs
+shows top middle bottom count = record { top = top; middle = middle; bottom = bottom; count = count }
 
 -- the top output equals the top input
 abbrev pub outputs : Power → Effect → Outputs
-outputs on e = shows (on .top) (e .middle) (e .bottom)
+outputs on e = shows (on .top) (e .middle) (e .bottom) (e .count)
 
 abbrev pub written : Network → Block → Power → Effect → Table → Table
 written net b on e t =
     coils-put net (b .coils) (outputs on e)
     (effect-put (first-word net (b .middle)) (b .n) (first-word net (pointer-node (kind-of (b .kind)) b)) e t)
 
--- the outputs of a block, and the table that it leaves
+-- the outputs of a block with its count, and the table that it leaves
 unfoldable pub block-outputs : Network → Block → Table → Power → Outputs
 unfolding kind-of view effect-of
 block-outputs net b t on = outputs on (effect-on net b t on)

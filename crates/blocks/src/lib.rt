@@ -14,11 +14,12 @@ pub struct Power {
     pub bottom: bool,
 }
 
-// The three outputs of a block.
+// The three outputs of a block, and how many bit pairs a compare examined; 0 for every other kind.
 pub struct Outputs {
     pub top: bool,
     pub middle: bool,
     pub bottom: bool,
+    pub count: u16,
 }
 
 // A block's record, and the indexes of its nodes' first words.

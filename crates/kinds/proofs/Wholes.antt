@@ -31,19 +31,19 @@ answered (Refused v) = false
 
 -- ---- AND, OR, XOR, COMP
 module _ (operation : Operation) (t : List ℕ) (s d n : ℕ) (on : Power) where
-  pub logic-off : on .top ≡ false → Did on (combined-at operation t s d n on) d n s t (shows (on .top) false false) t
+  pub logic-off : on .top ≡ false → Did on (combined-at operation t s d n on) d n s t (shows (on .top) false false 0) t
   unfolding logic
   logic-off e =
-      by-effect on d n s t (shows (on .top) false false) t
+      by-effect on d n s t (shows (on .top) false false 0) t
       (ap (λ (a : Bool). cond a (effect (becomes (matrix n (λ p. combined operation (bit (run t s n) p) (bit (run t d n) p)))) none false false) (idle none)) e)
       (idle-does on d n s t)
 
   pub logic-on : on .top ≡ true → Accepted longest-whole (length t) n s d → {v : Verdict} {table : List ℕ}
       → Leaves (combine-verdict (length t) s d n) (combine-table operation t s d n) v table
-      → Did on (combined-at operation t s d n on) d n s t (shows (on .top) false false) table
+      → Did on (combined-at operation t s d n on) d n s t (shows (on .top) false false 0) table
   unfolding logic matrix-put change-put combine-table
   logic-on e h {v} {table} l =
-      by-effect on d n s t (shows (on .top) false false) table
+      by-effect on d n s t (shows (on .top) false false 0) table
       (ap (λ (a : Bool). cond a (effect (becomes (matrix n (λ p. combined operation (bit (run t s n) p) (bit (run t d n) p)))) none false false) (idle none)) e)
       (record {
         answers = refl;
@@ -52,22 +52,22 @@ module _ (operation : Operation) (t : List ℕ) (s d n : ℕ) (on : Power) where
 
 -- ---- BROT
 module _ (t : List ℕ) (s d n : ℕ) (on : Power) where
-  pub rotate-off : on .top ≡ false → Did on (rotated-at t s n on) d n s t (shows (on .top) false false) t
+  pub rotate-off : on .top ≡ false → Did on (rotated-at t s n on) d n s t (shows (on .top) false false 0) t
   unfolding rotate
   rotate-off e =
-      by-effect on d n s t (shows (on .top) false false) t
+      by-effect on d n s t (shows (on .top) false false 0) t
       (ap (λ (a : Bool). cond a (effect (becomes (matrix n (moved (on .middle) (on .bottom) (run t s n) n))) none (leaving (on .middle) (run t s n) n) false) (idle none)) e)
       (idle-does on d n s t)
 
   pub rotate-on : on .top ≡ true → Accepted longest-whole (length t) n s d → {r : Answer} {table : List ℕ}
       → Leaves (move-said (on .middle) t s d n) (move-table (on .middle) (on .bottom) t s d n) (bit-said r) table
-      → {x : Answer} → x ≡ r → Did on (rotated-at t s n on) d n s t (shows (on .top) (answered x) false) table
+      → {x : Answer} → x ≡ r → Did on (rotated-at t s n on) d n s t (shows (on .top) (answered x) false 0) table
   unfolding rotate matrix-put change-put move-table answered
   rotate-on e h {r} {table} l {x} q =
       let taken = fault-none longest-whole (length t) n s d h in
-      by-effect on d n s t (shows (on .top) (answered x) false) table
+      by-effect on d n s t (shows (on .top) (answered x) false 0) table
       (ap (λ (a : Bool). cond a (effect (becomes (matrix n (moved (on .middle) (on .bottom) (run t s n) n))) none (leaving (on .middle) (run t s n) n) false) (idle none)) e)
       (record {
-        answers = ap (λ (a : Answer). shows (on .top) (answered a) false) (q ∙ told (fault longest-whole (length t) n s d) (leaving (on .middle) (run t s n) n) r (l .answers) ∙ unless-done (fault longest-whole (length t) n s d) _ _ taken);
+        answers = ap (λ (a : Answer). shows (on .top) (answered a) false 0) (q ∙ told (fault longest-whole (length t) n s d) (leaving (on .middle) (run t s n) n) r (l .answers) ∙ unless-done (fault longest-whole (length t) n s d) _ _ taken);
         leaves = l .leaves ∙ unless-done (fault longest-whole (length t) n s d) _ t taken;
       })

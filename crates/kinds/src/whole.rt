@@ -29,7 +29,7 @@ pub(crate) fn logic(
     if number != 0 {
         return refused(number);
     }
-    let out = finished(on.top, false, false);
+    let out = finished(on.top, false, false, 0);
     if on.top {
         matrix::combine(table, operation, s, d, n);
     }
@@ -46,12 +46,12 @@ pub(crate) fn rotate(table: &mut [u16], s: usize, d: usize, n: usize, on: Power)
     if number != 0 {
         return refused(number);
     }
-    let off = finished(on.top, false, false);
+    let off = finished(on.top, false, false, 0);
     if !on.top {
         return off;
     }
     let Answer::Bit(left) = matrix::move_one(table, s, d, n, on.middle, on.bottom) else {
         return off;
     };
-    finished(on.top, left, false)
+    finished(on.top, left, false, 0)
 }

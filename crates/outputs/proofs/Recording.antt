@@ -21,8 +21,8 @@ use Rattle.blocks.specs.declared.Outputs.{Outputs}
 use Rattle.blocks.specs.Answer.{no-outputs}
 use Rattle.scan.specs.Scan.{scanned, scan-verdict, scan-table, scan-records, scan-packed}
 use Rattle.blocks.specs.Packed.{packed, unpacked}
-use Rattle.scan.proofs.Kept.{done-outputs, done-records, records-kept, enough}
-use Rattle.scan.proofs.Packing.{all-back}
+use Rattle.scan.proofs.Kept.{checks, done-outputs, done-records, records-kept, enough}
+use Rattle.scan.proofs.Packing.{back-whole}
 use Rattle.scan.proofs.Repeating.{one-count}
 use Rattle.scan.proofs.Scanning.{all-outs-count}
 use Rattle.scan.proofs.Verdicts.{by-tests}
@@ -118,7 +118,7 @@ module _ (ws t : List ℕ) (room : ℕ) {e : ℕ} (least : e ≡ min room 128) (
         leaves = s .leaves-one ∙ same-table;
         fills = λ list l.
             ap (λ (k : ℕ). map unpacked (take k (packs ++ drop e zs)) ++ drop k list) count
-            ∙ ap (λ (x : List Outputs). x ++ drop (block-count (network-in ws)) list) (ap (map unpacked) (front zero-number) ∙ all-back (scanned (network-in ws) t .outs))
+            ∙ ap (λ (x : List Outputs). x ++ drop (block-count (network-in ws)) list) (ap (map unpacked) (front zero-number) ∙ back-whole (network-in ws) t (accepted-good ws (checks ws t (length (take e zs)) zero-number)))
             ∙ sym (done-records ws t list (judged list l ∙ h));
       }
 

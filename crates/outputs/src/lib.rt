@@ -52,7 +52,7 @@ fn numbered(words: &[u16], table: &mut [u16], room: usize) -> Numbers
     }
 }
 
-// The outputs that a number of a list spells.
+// The outputs and the count that a number of a list spells.
 fn outputs_of(numbers: &[u16], k: usize) -> Outputs
     requires { ⌜ k < length (now numbers) ⌝ }
     ensures { λ r. ⌜ r ≡ unpacked (getD (now (numbers .entry)) k 0) ⌝ }
@@ -62,6 +62,7 @@ fn outputs_of(numbers: &[u16], k: usize) -> Outputs
         top: bits::bit_at(number, 16),
         middle: bits::bit_at(number, 15),
         bottom: bits::bit_at(number, 14),
+        count: number / 8,
     }
 }
 

@@ -4,7 +4,7 @@ use mathlib.Core.Bool.{Bool, true, false, cond}
 use mathlib.Core.List.{List, [], _∷_}
 use mathlib.Core.Logic.{⊎-elim}
 use mathlib.Core.Option.{Option, none, some}
-use Prim.Native.Nat.{ℕ, _+_, _*_, _≤_}
+use Prim.Native.Nat.{ℕ, _+_, _-_, _*_, _≤_}
 use native.Mathlib.Omega.{arith}
 use types.Run.{OneOf}
 use denote.Enum.Declared.{tagOf}
@@ -19,7 +19,8 @@ use Rattle.search.specs.Search.{first-differing, difference-said, first-said}
 use Rattle.pointer.specs.Pointer.{in-range, set-to}
 use Rattle.search.proofs.Difference.{the-type}
 use Rattle.runs.proofs.Refusals.{unless-done, fault-none}
-use Rattle.search.proofs.Answers.{reported, first-difference}
+use Rattle.search.specs.Inner.{reported}
+use Rattle.search.proofs.Answers.{first-difference}
 use Rattle.search.proofs.Sought.{at-means-first}
 use Rattle.blocks.specs.declared.Power.{Power}
 use Rattle.blocks.specs.View.{View, seen}
@@ -65,40 +66,43 @@ module _ (at : ℕ) (t : List ℕ) (s p n : ℕ) (on : Power) where
   abbrev pub start : Pointer
   start = set-to 0 (on .middle) (into n at)
 
+  abbrev pub begins : ℕ
+  begins = in-range start .at
+
   sought : Option ℕ
-  sought = first-differing (run t s n) (run t (p + 1) n) n (in-range start .at)
+  sought = first-differing (run t s n) (run t (p + 1) n) n begins
 
   chosen : Bool → Effect
-  chosen a = cond a (found n seen-here sought) (idle (cond (on .middle) (some (start .at)) none))
+  chosen a = cond a (found n seen-here begins sought) (idle (cond (on .middle) (some (start .at)) none))
 
   pub compare-off : on .top ≡ false → {w : ℕ} → w ≡ start .at → {table : List ℕ}
-      → table ≡ matrix-put p (one-word (cond (on .middle) (some w) none)) t → Did on (compared-at at t s p n on) p n p t (shows (on .top) false false) table
+      → table ≡ matrix-put p (one-word (cond (on .middle) (some w) none)) t → Did on (compared-at at t s p n on) p n p t (shows (on .top) false false 0) table
   unfolding compare seen-here sought chosen matrix-put change-put
   compare-off e {w} q {table} h =
-      by-effect on p n p t (shows (on .top) false false) table (ap chosen e) (record {
+      by-effect on p n p t (shows (on .top) false false 0) table (ap chosen e) (record {
         answers = refl;
         leaves = h ∙ ap (λ (x : ℕ). matrix-put p (one-word (cond (on .middle) (some x) none)) t) q;
       })
 
   module _ (e : on .top ≡ true) (h : Accepted longest-whole (length t) n s (p + 1)) where
-    answer : first-difference t s (p + 1) n (in-range start .at) ≡ reported sought
+    answer : first-difference t s (p + 1) n begins ≡ reported sought
     unfolding first-difference sought
     answer = unless-done (fault longest-whole (length t) n s (p + 1)) (reported sought) (Refused (placeless (fault longest-whole (length t) n s (p + 1)))) (fault-none longest-whole (length t) n s (p + 1) h)
 
-    pub compare-found : {here : ℕ} → first-difference t s (p + 1) n (in-range start .at) ≡ At here
-        → Did on (compared-at at t s p n on) p n p t (shows (on .top) true (bit (run t s n) here)) (set t p here)
+    pub compare-found : {here : ℕ} → first-difference t s (p + 1) n begins ≡ At here
+        → Did on (compared-at at t s p n on) p n p t (shows (on .top) true (bit (run t s n) here) (here - begins)) (set t p here)
     unfolding compare seen-here sought chosen matrix-put change-put found
     compare-found {here} q =
-        by-effect on p n p t (shows (on .top) true (bit (run t s n) here)) (set t p here)
-        (ap chosen e ∙ ap (found n seen-here) (position sought here (sym answer ∙ q)))
+        by-effect on p n p t (shows (on .top) true (bit (run t s n) here) (here - begins)) (set t p here)
+        (ap chosen e ∙ ap (found n seen-here begins) (position sought here (sym answer ∙ q)))
         (record { answers = refl; leaves = word-put t p here (omega (arith, h .second)) })
 
-    pub compare-none : (r : Difference) → r ≡ first-difference t s (p + 1) n (in-range start .at) → NoPosition r
-        → Did on (compared-at at t s p n on) p n p t (shows (on .top) false false) (set t p (16 * n))
+    pub compare-none : (r : Difference) → r ≡ first-difference t s (p + 1) n begins → NoPosition r
+        → Did on (compared-at at t s p n on) p n p t (shows (on .top) false false (16 * n - begins)) (set t p (16 * n))
     unfolding compare seen-here sought chosen matrix-put change-put found
     compare-none r q g =
-        by-effect on p n p t (shows (on .top) false false) (set t p (16 * n))
-        (ap chosen e ∙ ap (found n seen-here) (nowhere sought r (q ∙ answer) g))
+        by-effect on p n p t (shows (on .top) false false (16 * n - begins)) (set t p (16 * n))
+        (ap chosen e ∙ ap (found n seen-here begins) (nowhere sought r (q ∙ answer) g))
         (record { answers = refl; leaves = word-put t p (16 * n) (omega (arith, h .second)) })
 
   -- a position that is found is one of the matrix

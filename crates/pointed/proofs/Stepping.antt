@@ -41,34 +41,34 @@ module _ (held : Bool) (at : ℕ) (t : List ℕ) (d p n : ℕ) (on : Power) wher
   modified : Bool → Bool → Effect
   modified power over = cond power (modify-worked held n (seen [] (run t d n) at) on over (eqb at 0)) (idle none)
 
-  -- the middle output shows the middle input, with power on top
+  -- the middle output shows the middle input, 0 with power on top
   module _ {lit : Bool} (m : lit ≡ (on .top && on .middle)) where
     lit-by : {power : Bool} → on .top ≡ power → lit ≡ (power && on .middle)
     lit-by e = m ∙ ap (λ (a : Bool). a && on .middle) e
 
-    pub modify-off : on .top ≡ false → Did on (modified-at held at t d n on) d n p t (shows (on .top) lit false) t
+    pub modify-off : on .top ≡ false → Did on (modified-at held at t d n on) d n p t (shows (on .top) lit false 0) t
     unfolding modify modified matrix-put change-put
     modify-off e =
-        by-effect on d n p t (shows (on .top) lit false) t (ap (λ (a : Bool). modified a (ltb (16 * n) at)) e) (record {
-          answers = ap (λ (a : Bool). shows (on .top) a false) (lit-by e);
+        by-effect on d n p t (shows (on .top) lit false 0) t (ap (λ (a : Bool). modified a (ltb (16 * n) at)) e) (record {
+          answers = ap (λ (a : Bool). shows (on .top) a false 0) (lit-by e);
           leaves = refl;
         })
 
-    pub modify-over : on .top ≡ true → 16 * n < at → Did on (modified-at held at t d n on) d n p t (shows (on .top) lit true) t
+    pub modify-over : on .top ≡ true → 16 * n < at → Did on (modified-at held at t d n on) d n p t (shows (on .top) lit true 0) t
     unfolding modify modified matrix-put change-put
     modify-over e l =
-        by-effect on d n p t (shows (on .top) lit true) t (ap₂ modified e (lt-ltb (16 * n) at l)) (record {
-          answers = ap (λ (a : Bool). shows (on .top) a true) (lit-by e);
+        by-effect on d n p t (shows (on .top) lit true 0) t (ap₂ modified e (lt-ltb (16 * n) at l)) (record {
+          answers = ap (λ (a : Bool). shows (on .top) a true 0) (lit-by e);
           leaves = refl;
         })
 
     pub modify-on : on .top ≡ true → at ≤ 16 * n → {asked : Bool} → asked ≡ (held && on .bottom) → {w : ℕ} → w ≡ next-of asked (into n at)
         → {there table : List ℕ} → there ≡ put-at t d n at (on .middle) → table ≡ matrix-put p (one-word (cond asked (some w) none)) there
-        → Did on (modified-at held at t d n on) d n p t (shows (on .top) lit false) table
+        → Did on (modified-at held at t d n on) d n p t (shows (on .top) lit false 0) table
     unfolding modify modified
     modify-on e l {asked} r {w} q {there} {table} h k =
-        by-effect on d n p t (shows (on .top) lit false) table (ap₂ modified e (le-ltb (16 * n) at l)) (record {
-          answers = ap (λ (a : Bool). shows (on .top) a false) (lit-by e);
+        by-effect on d n p t (shows (on .top) lit false 0) table (ap₂ modified e (le-ltb (16 * n) at l)) (record {
+          answers = ap (λ (a : Bool). shows (on .top) a false 0) (lit-by e);
           leaves =
               k
               ∙ (λ i. matrix-put p (one-word (cond asked (some (q i)) none)) (h i))
@@ -97,10 +97,10 @@ module _ (held : Bool) (at : ℕ) (t : List ℕ) (s p n : ℕ) (on : Power) wher
       (idle left)
 
   pub sense-off : on .top ≡ false → {w : ℕ} → w ≡ begun .at → {asked : Bool} → asked ≡ (held && on .bottom)
-      → {table : List ℕ} → table ≡ matrix-put p (one-word (cond asked (some w) none)) t → Did on (sensed-at held at t s n on) s n p t (shows (on .top) false false) table
+      → {table : List ℕ} → table ≡ matrix-put p (one-word (cond asked (some w) none)) t → Did on (sensed-at held at t s n on) s n p t (shows (on .top) false false 0) table
   unfolding sense sensed left matrix-put change-put
   sense-off e {w} q {asked} r {table} k =
-      by-effect on s n p t (shows (on .top) false false) table (ap (λ (a : Bool). sensed a (ltb (16 * n) (begun .at))) e) (record {
+      by-effect on s n p t (shows (on .top) false false 0) table (ap (λ (a : Bool). sensed a (ltb (16 * n) (begun .at))) e) (record {
         answers = refl;
         leaves = k ∙ (λ i. matrix-put p (one-word (cond (r i) (some (q i)) none)) t);
       })
@@ -114,10 +114,10 @@ module _ (held : Bool) (at : ℕ) (t : List ℕ) (s p n : ℕ) (on : Power) wher
       go false h = refl
       go true h = absurd (omega (arith, reset-to-one n at l u))
 
-  pub sense-over : 1 ≤ n → n ≤ longest → on .top ≡ true → 16 * n < begun .at → Did on (sensed-at held at t s n on) s n p t (shows (on .top) false true) t
+  pub sense-over : 1 ≤ n → n ≤ longest → on .top ≡ true → 16 * n < begun .at → Did on (sensed-at held at t s n on) s n p t (shows (on .top) false true 0) t
   unfolding sense sensed left matrix-put change-put
   sense-over low high e l =
-      by-effect on s n p t (shows (on .top) false true) t
+      by-effect on s n p t (shows (on .top) false true 0) t
       (ap₂ sensed e (lt-ltb (16 * n) (begun .at) l) ∙ ap (λ (o : Option ℕ). effect stays o false true) (not-reset low high l))
       (record { answers = refl; leaves = refl })
 
@@ -128,11 +128,11 @@ module _ (held : Bool) (at : ℕ) (t : List ℕ) (s p n : ℕ) (on : Power) wher
 
   pub sense-on : on .top ≡ true → begun .at ≤ 16 * n → {inc : Bool} → inc ≡ (held && on .middle) → {asked : Bool} → asked ≡ (inc || (held && on .bottom))
       → {w : ℕ} → w ≡ next-of inc begun → {table : List ℕ} → table ≡ matrix-put p (one-word (cond asked (some w) none)) t
-      → {middle : Bool} → middle ≡ bit (run t s n) (begun .at) → Did on (sensed-at held at t s n on) s n p t (shows (on .top) middle false) table
+      → {middle : Bool} → middle ≡ bit (run t s n) (begun .at) → Did on (sensed-at held at t s n on) s n p t (shows (on .top) middle false 0) table
   unfolding sense sensed left matrix-put change-put
   sense-on e l {inc} c {asked} r {w} q {table} k {middle} m =
-      by-effect on s n p t (shows (on .top) middle false) table (ap₂ sensed e (le-ltb (16 * n) (begun .at) l)) (record {
-        answers = ap (λ (a : Bool). shows (on .top) a false) m;
+      by-effect on s n p t (shows (on .top) middle false 0) table (ap₂ sensed e (le-ltb (16 * n) (begun .at) l)) (record {
+        answers = ap (λ (a : Bool). shows (on .top) a false 0) m;
         leaves =
             k
             ∙ (λ i. matrix-put p (one-word (cond (r i) (some (q i)) none)) t)

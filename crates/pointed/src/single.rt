@@ -62,15 +62,15 @@ pub fn modify(table: &mut [u16], node: Node, p: usize, d: usize, n: usize, on: P
     let size = (16 * n) as u16;
     let lit = both(on.top, on.middle);
     if !on.top {
-        return finished(on.top, lit, false);
+        return finished(on.top, lit, false, 0);
     }
     if size < at {
-        return finished(on.top, lit, true);
+        return finished(on.top, lit, true, 0);
     }
     put_at(table, d, n, at, on.middle);
     let increase = both(held, on.bottom);
     put_pointer(table, p, increase, next(increase, Pointer { at, size }));
-    finished(on.top, lit, false)
+    finished(on.top, lit, false, 0)
 }
 
 // The bit at a pointer of the n words from s on. A node gives the pointer, whose register stands at p.
@@ -91,13 +91,13 @@ pub fn sense(table: &mut [u16], node: Node, p: usize, s: usize, n: usize, on: Po
     let pointer = set_to(1, reset, Pointer { at, size });
     if !on.top {
         put_pointer(table, p, reset, pointer.at);
-        return finished(on.top, false, false);
+        return finished(on.top, false, false, 0);
     }
     if size < pointer.at {
-        return finished(on.top, false, true);
+        return finished(on.top, false, true, 0);
     }
     let sensed = bit(table, s, n, pointer.at);
     let increase = both(held, on.middle);
     put_pointer(table, p, either(increase, reset), next(increase, pointer));
-    finished(on.top, sensed, false)
+    finished(on.top, sensed, false, 0)
 }

@@ -55,6 +55,7 @@ const BEFORE: Outputs = Outputs {
     top: false,
     middle: true,
     bottom: true,
+    count: 9,
 };
 
 // The words of a network of one word of coils, eight holding registers and so many blocks. The words of all six stand there.

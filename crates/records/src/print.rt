@@ -78,10 +78,11 @@ pub(crate) fn opened(opened: Opened) -> bool {
     refused(opened.verdict()) && named(b" blocks ", opened.count() as usize)
 }
 
-// Three outputs, 1 for power and 0 for none, and a comma after them.
+// Three outputs, 1 for power and 0 for none, the count, and a comma after them.
 fn outputs(outputs: Outputs) -> bool {
     named(b" ", outputs.top as usize)
         && two(outputs.middle as usize, outputs.bottom as usize)
+        && named(b" ", outputs.count as usize)
         && text(b",")
 }
 

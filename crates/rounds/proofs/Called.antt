@@ -18,7 +18,7 @@ use Rattle.blocks.specs.Answer.{no-outputs}
 use Rattle.blocks.specs.Packed.{packed, unpacked}
 use Rattle.scan.specs.Scan.{scanned, scan-verdict, scan-table, scan-packed}
 use Rattle.scan.proofs.Kept.{exact-table, checks, done-outputs, done-records}
-use Rattle.scan.proofs.Packing.{packed-at, unpack-pack}
+use Rattle.scan.proofs.Packing.{packed-at, unpack-pack, fit-at, packed-whole}
 use Rattle.scan.proofs.Scanning.{all-outs-count}
 use Rattle.scan.proofs.scan_packed.Reads as packed-reads
 use Rattle.inputs.proofs.Wired.{unpacked-at}
@@ -28,10 +28,10 @@ use Rattle.rounds.proofs.Climb.{round-some}
 use Rattle.rounds.proofs.Demand3.{demand-3}
 
 -- what says the same in every scan says the same in turn
-pub in-turn-same : {f g : ℕ → Option ℕ} {m : ℕ} → ((j : ℕ) → j < m → f j ≡ g j) → (k j : ℕ) → j + k ≤ m → in-turn f j k ≡ in-turn g j k
+pub in-turn-same : {A : Type 0} {f g : ℕ → A} {m : ℕ} → ((j : ℕ) → j < m → f j ≡ g j) → (k j : ℕ) → j + k ≤ m → in-turn f j k ≡ in-turn g j k
 unfolding in-turn
 in-turn-same h zero j l = refl
-in-turn-same h (suc k) j l = ap₂ (λ (o : Option ℕ) (r : List (Option ℕ)). o ∷ r) (h j (omega arith)) (in-turn-same h k (suc j) (omega arith))
+in-turn-same {A} h (suc k) j l = ap₂ (λ (x : A) (r : List A). x ∷ r) (h j (omega arith)) (in-turn-same h k (suc j) (omega arith))
 
 -- so where a caller reads in every scan what it reports, the demand is the caller's
 pub as-read : {net : Network} {i m : ℕ} {given : ℕ → List ℕ} → Scanning net m given → Steady net i m given → (says : ℕ → Option ℕ)
@@ -39,7 +39,7 @@ pub as-read : {net : Network} {i m : ℕ} {given : ℕ → List ℕ} → Scannin
 as-read {net} {i} {m} {given} R S says h j l = subst (RoundAt net i given j) (sym (in-turn-same h (round-at net i given j) j l)) (demand-3 net i m given R S j l)
 
 -- a scan is done at all only where the network is accepted and the table fits
-scanning : (ws : List ℕ) (m : ℕ) (lent : ℕ → List ℕ) (rooms : ℕ → ℕ) → ((j : ℕ) → j < m → scan-verdict ws (length (lent j)) (rooms j) .number ≡ 0) → 0 < m → Scanning (network-in ws) m lent
+pub scanning : (ws : List ℕ) (m : ℕ) (lent : ℕ → List ℕ) (rooms : ℕ → ℕ) → ((j : ℕ) → j < m → scan-verdict ws (length (lent j)) (rooms j) .number ≡ 0) → 0 < m → Scanning (network-in ws) m lent
 scanning ws m lent rooms taken l = record {
   accepted = accepted-good ws (checks ws (lent 0) (rooms 0) (taken 0 l));
   right-size = λ j u. exact-table ws (lent j) (rooms j) (taken j u);
@@ -47,7 +47,7 @@ scanning ws m lent rooms taken l = record {
 
 -- ---- calls with records
 module _ (ws : List ℕ) (i m : ℕ) (lent left : ℕ → List ℕ) (lists records : ℕ → List Outputs) (answers : ℕ → Verdict) (K : RecordCalls ws m lent left lists records answers) where
-  taken : (j : ℕ) → j < m → scan-verdict ws (length (lent j)) (length (lists j)) .number ≡ 0
+  pub taken : (j : ℕ) → j < m → scan-verdict ws (length (lent j)) (length (lists j)) .number ≡ 0
   taken j l = sym (ap (λ (v : Verdict). v .number) (K .kept j l .answers)) ∙ K .done j l
 
   -- the block's entry is its output among the scan's
@@ -67,7 +67,7 @@ demand-3-records ws i m lent left lists records answers K S kept j l =
 
 -- ---- and with numbers
 module _ (ws : List ℕ) (i m : ℕ) (lent left : ℕ → List ℕ) (lists numbers : ℕ → List ℕ) (answers : ℕ → Verdict) (K : PackedCalls ws m lent left lists numbers answers) where
-  numbers-taken : (j : ℕ) → j < m → scan-verdict ws (length (lent j)) (length (lists j)) .number ≡ 0
+  pub numbers-taken : (j : ℕ) → j < m → scan-verdict ws (length (lent j)) (length (lists j)) .number ≡ 0
   numbers-taken j l = sym (ap (λ (v : Verdict). v .number) (K .kept j l .answers)) ∙ K .done j l
 
   pub numbers-show : i < block-count (network-in ws) → (j : ℕ) → j < m
@@ -79,7 +79,7 @@ module _ (ws : List ℕ) (i m : ℕ) (lent left : ℕ → List ℕ) (lists numbe
       ∙ ap unpacked
       (List·getD-append (map packed outs) (drop (block-count (network-in ws)) (lists j)) 0 i (omega (arith, length-map outs packed, all-outs-count (network-in ws) (lent j)))
       ∙ packed-at outs i)
-      ∙ unpack-pack (getD outs i no-outputs)
+      ∙ unpack-pack (getD outs i no-outputs) (fit-at outs (packed-whole (network-in ws) (lent j) (accepted-good ws (checks ws (lent j) (length (lists j)) (numbers-taken j l)))) i)
 
   reads-numbers : i < block-count (network-in ws) → PointerKept (network-in ws) i m lent left → (j : ℕ) → j < m
       → reading (network-in ws) i (left j) (map unpacked (numbers j)) ≡ report (network-in ws) i (lent j)

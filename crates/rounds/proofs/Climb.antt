@@ -16,11 +16,11 @@ use Rattle.search.specs.Search.{first, differing}
 use Rattle.rounds.specs.Demand3.{above, difference-count, round-length, nothing, how-often, nones, Ascending, Round, RoundMeans}
 
 -- ---- the first position above a start, and those after it
-data Look (f : ℕ → Bool) (i k : ℕ) : Type 0 where
+pub data Look (f : ℕ → Bool) (i k : ℕ) : Type 0 where
   nowhere : first f i k ≡ none → above f i k ≡ [] → Look f i k
   at : (p : ℕ) → first f i k ≡ some p → i < p → p ≤ i + k → f p ≡ true → above f i k ≡ p ∷ above f p (i + k - p) → Look f i k
 
-look : (f : ℕ → Bool) (k i : ℕ) → Look f i k
+pub look : (f : ℕ → Bool) (k i : ℕ) → Look f i k
 unfolding first above
 look f zero i = nowhere refl refl
 look f (suc k) i = go (f (suc i)) refl (look f k (suc i))
@@ -71,14 +71,18 @@ module _ (f : ℕ → Bool) (N : ℕ) where
   ends none = N
   ends (some p) = p
 
-  unfoldable pub run : ℕ → ℕ → List (Option ℕ)
-  run q zero = []
-  run q (suc k) = found q ∷ run (ends (found q)) k
+  -- of k successive searches, from a pointer on, what is said of each by its pointer
+  unfoldable pub along : {A : Type 0} → (ℕ → A) → ℕ → ℕ → List A
+  along says q zero = []
+  along says q (suc k) = says q ∷ along says (ends (found q)) k
 
-  from-inside : (q : ℕ) → q < N → from q ≡ q
+  abbrev pub run : ℕ → ℕ → List (Option ℕ)
+  run = along found
+
+  pub from-inside : (q : ℕ) → q < N → from q ≡ q
   from-inside q l = ap (λ (a : Bool). cond a q 0) (lt-ltb q N l)
 
-  from-end : (q : ℕ) → N ≤ q → from q ≡ 0
+  pub from-end : (q : ℕ) → N ≤ q → from q ≡ 0
   from-end q l = ap (λ (a : Bool). cond a q 0) (le-ltb q N l)
 
   pub from-below : 1 ≤ N → (q : ℕ) → from q < N
@@ -101,13 +105,13 @@ module _ (f : ℕ → Bool) (N : ℕ) where
 
   -- a search depends on where it starts alone
   same-start : (q r : ℕ) → from q ≡ from r → (m : ℕ) → run q m ≡ run r m
-  unfolding run
+  unfolding along
   same-start q r e zero = refl
   same-start q r e (suc m) = ap (λ (i : ℕ). first f i (N - i) ∷ run (ends (first f i (N - i))) m) e
 
   -- fewer reports are the first of more
   prefix : (a b q : ℕ) → run q a ≡ take a (run q (a + b))
-  unfolding run
+  unfolding along
   prefix zero b q = refl
   prefix (suc a) b q =
       let n : suc a + b ≡ suc (a + b) = omega arith in
@@ -126,7 +130,7 @@ module _ (f : ℕ → Bool) (N : ℕ) where
   no-climb q m = let n : 0 + m ≡ m = omega arith in ap (run q) n
 
   climbs-on : (q m p : ℕ) (l : List ℕ) → found q ≡ some p → Climbs p m l → Climbs q m (p ∷ l)
-  unfolding Climbs last-of run
+  unfolding Climbs last-of along
   climbs-on q m p l e h =
       let n : suc (length l) + m ≡ suc (length l + m) = omega arith in
       ap (run q) n ∙ ap (λ (o : Option ℕ). o ∷ run (ends o) (length l + m)) e ∙ ap (λ (r : List (Option ℕ)). some p ∷ r) h
@@ -201,7 +205,7 @@ module _ (f : ℕ → Bool) (N : ℕ) where
 
   -- from the beginning, the positions up to a point are reported first
   lower-first : 1 ≤ N → (i : ℕ) → i ≤ N → run 0 (length (above f 0 i)) ≡ map some (above f 0 i)
-  unfolding run Climbs
+  unfolding along Climbs
   lower-first low i u =
       let n : i + (N - i) ≡ N = omega arith in
       let z : 0 + i ≡ i = omega arith in
@@ -226,7 +230,7 @@ module _ (f : ℕ → Bool) (N : ℕ) where
 
   pub round-from : 1 ≤ N → (q : ℕ)
       → run q (length (above f 0 N) + spared) ≡ map some (above f (from q) (N - from q)) ++ nothing spared ++ map some (above f 0 (from q))
-  unfolding run Climbs nothing
+  unfolding along Climbs nothing
   round-from low q = go (f N) refl
     where
       i : ℕ
@@ -368,7 +372,7 @@ module _ (a b : List ℕ) (n : ℕ) where
   by-last true = omega arith
   by-last false = refl
 
-  length-is : round-length a b n ≡ difference-count a b n + spared (differing a b) (16 * n)
+  pub length-is : round-length a b n ≡ difference-count a b n + spared (differing a b) (16 * n)
   length-is = by-last (differing a b (16 * n))
 
   spare-is : round-length a b n - difference-count a b n ≡ spared (differing a b) (16 * n)

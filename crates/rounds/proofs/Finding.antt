@@ -18,7 +18,7 @@ use Rattle.rules.proofs.KindFacts.{Compared, accepted-means}
 use Rattle.blocks.specs.declared.Outputs.{Outputs}
 use Rattle.blocks.specs.Kind.{kind-of}
 use Rattle.blocks.specs.View.{View, seen, view}
-use Rattle.blocks.specs.Effect.{Effect, into, zeroed, compare, effect-of}
+use Rattle.blocks.specs.Effect.{Effect, into, zeroed, starts-at, compare, effect-of}
 use Rattle.blocks.specs.Work.{pointer-node, effect-on, block-outputs}
 use Rattle.blocks.specs.Answer.{no-outputs}
 use Rattle.blocks.proofs.Reported.{none-means-none}
@@ -72,6 +72,18 @@ module _ (net : Network) (i : ℕ) (t : List ℕ) (G : GoodNetwork net) (there :
   start-is =
       starts (b .n) (register-found net i t) (size-right (16 * b .n) (omega arith) (omega (arith, facts .some)) (omega (arith, facts .few)))
       (power-at net i t .middle)
+
+  -- the same in the words of the definitions
+  abbrev pub view-found : View
+  view-found = seen (source-found net i t) (matrix-found net i t) (register-found net i t)
+
+  pub compares-by : effect-on net (block-of net i) (visit net i t .table) (power-at net i t) ≡ compare (block-of net i .n) view-found (power-at net i t)
+  unfolding b v
+  compares-by = effect-is
+
+  pub starts-from : starts-at (block-of net i .n) view-found (power-at net i t) ≡ sought-from net i t
+  unfolding b v
+  starts-from = start-is
 
 pub nothing-found : NothingFound
 unfolding b v

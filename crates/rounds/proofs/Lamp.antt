@@ -9,6 +9,7 @@ use Rattle.blocks.specs.declared.Outputs.{Outputs}
 use Rattle.blocks.proofs.Modified.{middle-follows}
 use Rattle.scan.specs.Scans.{scans-table}
 use Rattle.rounds.specs.Demand3.{visit, power-at}
+use Rattle.rounds.specs.Bench.{report-in}
 use Rattle.rounds.specs.Lamp.{LampScanned, LampRecords, LampPacked, LampPrinted}
 use Rattle.rounds.proofs.Visits.{own-output}
 use Rattle.rounds.proofs.Called.{records-show, numbers-show}
@@ -33,7 +34,7 @@ pub lamp-printed : LampPrinted
 lamp-printed bytes fine i M =
     let f : File = file-in (words-in bytes) in
     record {
-      for-each = said-count (words-in bytes) (odd-byte bytes) fine i (M .there);
+      for-each = said-count (words-in bytes) (odd-byte bytes) fine i (M .there) report-in;
       lit-where-it-lights = λ j l.
           said-lit (words-in bytes) (odd-byte bytes) fine i (M .there) j l ∙ lamp-scanned (f .network) i M (scans-table (f .network) (f .image) j);
     }

@@ -1,5 +1,5 @@
--- One visit of a compare block with power and no reset: what it reports is what the search finds, its pointer goes on to that, and
--- its own pointer step leaves its matrices as they were. Assumes nothing.
+-- One visit of a compare block with power and no reset: what it reports is what the search finds, its pointer goes on to that, it counts how
+-- far, and its own pointer step leaves its matrices as they were. Assumes nothing.
 use mathlib.Core.Path.{_≡_, refl, sym, ap, ap₂, _∙_, subst}
 use mathlib.Core.Bool.{Bool, cond, xor}
 use mathlib.Core.List.{List, [], _∷_}
@@ -24,13 +24,14 @@ use Rattle.blocks.specs.declared.Power.{Power}
 use Rattle.blocks.specs.declared.Outputs.{Outputs}
 use Rattle.blocks.specs.Kind.{kind-of}
 use Rattle.blocks.specs.View.{View, first-word, seen, view}
-use Rattle.blocks.specs.Effect.{Effect, idle, into, zeroed, found, compare, effect-of}
+use Rattle.blocks.specs.Effect.{Effect, idle, into, zeroed, starts-at, found, compare, effect-of}
 use Rattle.blocks.specs.Work.{pointer-node, matrix-put, change-put, one-word, effect-on, block-outputs}
 use Rattle.blocks.proofs.Puts.{run-bits, word-inside, bit-outside}
 use Rattle.blocks.proofs.Written.{coils-spare-word}
 use Rattle.blocks.specs.Answer.{no-outputs}
 use Rattle.scan.specs.Scan.{step, scanned}
 use Rattle.rounds.specs.Demand3.{visit, power-at, source-in, matrix-in, register-index, register-in, source-found, matrix-found, after-step, done-by, report, SameBits, Steady, Scanning}
+use Rattle.rounds.specs.Counts.{count}
 use Rattle.scan.proofs.Kept.{exact-after}
 use Rattle.scan.proofs.Own.{own-output as scan-output}
 use Rattle.scan.proofs.Scanning.{after}
@@ -47,7 +48,7 @@ module _ (t : List ℕ) (p x : ℕ) (h : p < length t) where
   abbrev put : List ℕ
   put = placed t p (x ∷ [])
 
-  put-there : getD put p 0 ≡ x
+  pub put-there : getD put p 0 ≡ x
   put-there =
       let n : p + 0 ≡ p = omega arith in
       ap (λ (k : ℕ). getD put k 0) (sym n) ∙ word-inside t p (x ∷ []) (omega (arith, h)) 0 (omega arith)
@@ -119,57 +120,73 @@ module _ {net : Network} {i m : ℕ} {given : ℕ → List ℕ} (R : Scanning ne
         (sized-steps (into n q) (cond (ltb q (16 * n)) q 0) (size-right (16 * n) (omega arith) (omega (arith, facts .some)) (omega (arith, facts .few))))
 
     -- what the block is to do
-    effect-is : effect-on net b t on ≡ found n v (finds f (16 * n) q)
+    effect-is : effect-on net b t on ≡ found n v (from f (16 * n) q) (finds f (16 * n) q)
     unfolding b n pw t on q f v kind-of view effect-of compare
     effect-is =
         ap (λ (k : ℕ). effect-of (kind-of k) (eqb (pointer-node (kind-of k) b .class) 4) n (view (kind-of k) net b t) on) (S .compares)
         ∙ ap (λ (c : ℕ). compare n (seen (source-found net i (given j)) (matrix-found net i (given j)) (cond (eqb c 9) (b .middle .number) q)) on) (facts .held)
-        ∙ ap (λ (a : Bool). cond a (found n v (first-differing (v .source) (v .destination) n (in-range (zeroed n v on) .at))) (idle (cond (on .middle) (some (zeroed n v on .at)) none))) (S .powered j h)
-        ∙ ap (λ (a : Bool). found n v (first-differing (v .source) (v .destination) n (in-range (cond a (reset (into n q) 0) (into n q)) .at))) (S .not-reset j h)
-        ∙ ap (λ (x : ℕ). found n v (first-differing (v .source) (v .destination) n x)) starts
+        ∙ ap (λ (a : Bool). cond a (sought (starts-at n v on)) (idle (cond (on .middle) (some (zeroed n v on .at)) none))) (S .powered j h)
+        ∙ ap (λ (a : Bool). sought (in-range (cond a (reset (into n q) 0) (into n q)) .at)) (S .not-reset j h)
+        ∙ ap sought starts
+      where
+        sought : ℕ → Effect
+        sought x = found n v x (first-differing (v .source) (v .destination) n x)
 
     -- the table with a new pointer
     pointed : ℕ → List ℕ
     pointed x = placed t pw (x ∷ [])
 
     -- a compare writes its pointer and nothing else before its coils
-    stepped-is : (o : Option ℕ) → matrix-put pw (one-word (found n v o .pointer)) (change-put pw n (found n v o .destination) t) ≡ pointed (ends f (16 * n) o)
+    stepped-is : (x : ℕ) (o : Option ℕ) → matrix-put pw (one-word (found n v x o .pointer)) (change-put pw n (found n v x o .destination) t) ≡ pointed (ends f (16 * n) o)
     unfolding matrix-put change-put pointed found
-    stepped-is none = refl
-    stepped-is (some p) = refl
+    stepped-is x none = refl
+    stepped-is x (some p) = refl
 
-    step-is : (o : Option ℕ) → matrix-put pw (one-word (found n v o .pointer)) t ≡ pointed (ends f (16 * n) o)
+    step-is : (x : ℕ) (o : Option ℕ) → matrix-put pw (one-word (found n v x o .pointer)) t ≡ pointed (ends f (16 * n) o)
     unfolding matrix-put pointed found
-    step-is none = refl
-    step-is (some p) = refl
+    step-is x none = refl
+    step-is x (some p) = refl
 
     found-here : Option ℕ
     found-here = finds f (16 * n) q
 
     stepped-here : after-step net i (given j) ≡ pointed (ends f (16 * n) found-here)
     unfolding b pw t on found-here
-    stepped-here = ap (λ (e : Effect). matrix-put pw (one-word (e .pointer)) t) effect-is ∙ step-is found-here
+    stepped-here = ap (λ (e : Effect). matrix-put pw (one-word (e .pointer)) t) effect-is ∙ step-is (from f (16 * n) q) found-here
 
     done-pointer : getD (done-by net i (given j)) pw 0 ≡ ends f (16 * n) found-here
     unfolding b n pw t on kind-of found-here pointed
     done-pointer =
         coils-spare-word net b t on i (record { good = good; exact = long }) pw after-coils
         ∙ ap₂ (λ (e : Effect) (k : ℕ). getD (matrix-put (first-word net (pointer-node (kind-of k) b)) (one-word (e .pointer)) (change-put pw n (e .destination) t)) pw 0) effect-is (S .compares)
-        ∙ ap (λ (u : List ℕ). getD u pw 0) (stepped-is found-here)
+        ∙ ap (λ (u : List ℕ). getD u pw 0) (stepped-is (from f (16 * n) q) found-here)
         ∙ put-there t pw (ends f (16 * n) found-here) pointer-inside
 
     -- what it reports: what the search finds above its pointer
-    reported-is : (o : Option ℕ) → cond (found n v o .middle) (some (ends f (16 * n) o)) none ≡ o
+    reported-is : (x : ℕ) (o : Option ℕ) → cond (found n v x o .middle) (some (ends f (16 * n) o)) none ≡ o
     unfolding found
-    reported-is none = refl
-    reported-is (some p) = refl
+    reported-is x none = refl
+    reported-is x (some p) = refl
 
     report-is : report net i (given j) ≡ found-here
     unfolding b n pw t on block-outputs found-here
     report-is =
         ap₂ (λ (out : Outputs) (x : ℕ). cond (out .middle) (some x) none) (own-output net (given j) i (S .there)) done-pointer
         ∙ ap (λ (e : Effect). cond (e .middle) (some (ends f (16 * n) found-here)) none) effect-is
-        ∙ reported-is found-here
+        ∙ reported-is (from f (16 * n) q) found-here
+
+    -- what it counts: from its pointer to where it ends
+    counted-is : (x : ℕ) (o : Option ℕ) → found n v x o .count ≡ ends f (16 * n) o - x
+    unfolding found
+    counted-is x none = refl
+    counted-is x (some p) = refl
+
+    count-is : count net i (given j) ≡ ends f (16 * n) found-here - from f (16 * n) q
+    unfolding b n t on block-outputs found-here
+    count-is =
+        ap (λ (out : Outputs). out .count) (own-output net (given j) i (S .there))
+        ∙ ap (λ (e : Effect). e .count) effect-is
+        ∙ counted-is (from f (16 * n) q) found-here
 
     -- ---- what holds of the visit, in the words of demand 3
 
@@ -178,6 +195,14 @@ module _ {net : Network} {i m : ℕ} {given : ℕ → List ℕ} (R : Scanning ne
         ≡ finds (differing (source-found net i (given j)) (matrix-found net i (given j))) (16 * block-of net i .n) (register-in net i (visit net i (given j) .table))
     unfolding b n pw t q f found-here
     visit-reports = report-is
+
+    pub visit-counts :
+        count net i (given j)
+        ≡ ends (differing (source-found net i (given j)) (matrix-found net i (given j))) (16 * block-of net i .n)
+        (finds (differing (source-found net i (given j)) (matrix-found net i (given j))) (16 * block-of net i .n) (register-in net i (visit net i (given j) .table)))
+        - from (differing (source-found net i (given j)) (matrix-found net i (given j))) (16 * block-of net i .n) (register-in net i (visit net i (given j) .table))
+    unfolding b n pw t q f found-here
+    visit-counts = count-is
 
     -- the pointer when the block is done is one of its positions
     pub done-low : register-in net i (done-by net i (given j)) ≤ 16 * block-of net i .n

@@ -1,13 +1,13 @@
--- Demand 3 at work, computed: networks that meet its premises, with what they report; and for each of its last premises a network
+-- Demand 3 at work, computed: networks that meet its premises, with what they report and count; and for each of its last premises a network
 -- that meets the others and breaks the conclusion. Assumes nothing.
 use mathlib.Core.Path.{_≡_, refl, sym, ap, subst}
 use mathlib.Core.Bool.{true, xor}
 use mathlib.Core.List.{List, [], _∷_, flatMap}
 use mathlib.Core.Logic.{inr}
 use mathlib.Core.Option.{Option, none, some}
-use Prim.Native.Nat.{ℕ, zero, suc, _+_, _≤_, _<_}
+use Prim.Native.Nat.{ℕ, zero, suc, _+_, _*_, _≤_, _<_}
 use native.Mathlib.Omega.{arith}
-use lib.ListN.{length}
+use lib.ListN.{length, take, drop}
 use Rattle.bits.specs.Bit.{bit, value, matrix as matrix-of}
 use Rattle.matrix.specs.Logic.{combined}
 use Rattle.search.specs.Search.{first}
@@ -38,7 +38,8 @@ use Rattle.words.specs.Words.{words-from, words-in, odd-byte}
 use Rattle.file.specs.File.{File, image-section, run-section, file-in, file-checked}
 use Rattle.rounds.specs.Demand3.{above, visit, source-in, matrix-in, register-in, source-found, matrix-found, after-step, report, SameBits, in-turn, how-often, nones, SourceLeavesOut, NothingElse, Premises, Steady, Scanning, round-at, RoundAt}
 use Rattle.rounds.specs.Tests.{all-outside, Chain}
-use Rattle.rounds.specs.Bench.{text-says, ShowsRounds}
+use Rattle.rounds.specs.Bench.{report-in, count-in, text-says, ShowsRounds}
+use Rattle.rounds.specs.Counts.{count, added, adds-to}
 use Rattle.rounds.proofs.Climb.{round-means}
 use Rattle.rounds.proofs.Chained.{chain-is-steady}
 use Rattle.rounds.proofs.Demand3.{demand-3}
@@ -141,7 +142,27 @@ pub bench-reports : (level : ℕ) →
 unfolding onward in-turn step steps passes block-table block-outputs first reset in-range start-of matrix-of value bit xor
 bench-reports level = refl
 
+-- and count: 1 and 15, 2 and 14; all 16 where nothing differs, and from pointer 9 what is left; from a pointer past the end as from 0
+abbrev first-counts : ℕ → List ℕ → ℕ → List ℕ
+first-counts level t k = in-turn (λ s. count (bench-at level) 0 (onward (bench-at level) t s)) 0 k
+
+pub bench-counts : (level : ℕ) →
+    _≡_ {A = List (List ℕ)}
+    (first-counts level (32769 ∷ 0 ∷ 0 ∷ []) 4 ∷ first-counts level (0 ∷ 0 ∷ 0x4000 ∷ []) 4 ∷ first-counts level (5 ∷ 9 ∷ 5 ∷ []) 2 ∷ first-counts level (32769 ∷ 65535 ∷ 0 ∷ []) 3 ∷ [])
+    ((1 ∷ 15 ∷ 1 ∷ 15 ∷ []) ∷ (2 ∷ 14 ∷ 2 ∷ 14 ∷ []) ∷ (7 ∷ 16 ∷ []) ∷ (1 ∷ 15 ∷ 1 ∷ []) ∷ [])
+unfolding onward in-turn step steps passes block-table block-outputs first reset in-range start-of matrix-of value bit xor
+bench-counts level = refl
+
 -- ---- what the last premises are for
+
+-- the counts of a round add to 16n from pointer 0 or from 16n on: from pointer 5 those of the example's network add to 12
+pub start-must-be-zero : let given = onward bench (32769 ∷ 5 ∷ 0 ∷ []) in
+    Scanning bench 2 given × Steady bench 0 2 given × (adds-to (λ s. count bench 0 (given s)) 0 (round-at bench 0 given 0) ≡ 16 * 1 → ⊥)
+unfolding onward in-turn step steps passes block-table block-outputs first reset in-range start-of matrix-of value bit xor
+    above added
+start-must-be-zero =
+    let met = chain-is-steady bench 0 2 (onward bench (32769 ∷ 5 ∷ 0 ∷ [])) (bench-chain 1 (omega arith) (omega arith) 32769 5 0 2) in
+    (met .0, met .1, (λ e. let q : _≡_ {A = ℕ} 12 16 = e in omega arith))
 
 -- a statement on the numbers below 2, and below 3, from its cases
 below-two : (P : ℕ → Type 0) → P 0 → P 1 → (j : ℕ) → j < 2 → P j
@@ -281,21 +302,34 @@ example-shows =
 abbrev pub example-text : List ℕ
 example-text =
     98 ∷ 108 ∷ 111 ∷ 99 ∷ 107 ∷ 115 ∷ 32 ∷ 49 ∷ 32 ∷ 119 ∷ 111 ∷ 114 ∷ 100 ∷ 115 ∷ 32 ∷ 51 ∷ 10 ∷ 49
-    ∷ 32 ∷ 49 ∷ 32 ∷ 49 ∷ 32 ∷ 49 ∷ 32 ∷ 49 ∷ 32 ∷ 49 ∷ 10 ∷ 50 ∷ 32 ∷ 49 ∷ 32 ∷ 49 ∷ 32 ∷ 49
-    ∷ 32 ∷ 49 ∷ 32 ∷ 49 ∷ 54 ∷ 10 ∷ 51 ∷ 32 ∷ 49 ∷ 32 ∷ 49 ∷ 32 ∷ 49 ∷ 32 ∷ 49 ∷ 32 ∷ 49 ∷ 10
-    ∷ 52 ∷ 32 ∷ 49 ∷ 32 ∷ 49 ∷ 32 ∷ 49 ∷ 32 ∷ 49 ∷ 32 ∷ 49 ∷ 54 ∷ 10 ∷ 101 ∷ 110 ∷ 100 ∷ 32 ∷ 52
-    ∷ 10 ∷ []
+    ∷ 32 ∷ 49 ∷ 32 ∷ 49 ∷ 32 ∷ 49 ∷ 32 ∷ 49 ∷ 32 ∷ 49 ∷ 32 ∷ 49 ∷ 10 ∷ 50 ∷ 32 ∷ 49 ∷ 32 ∷ 49
+    ∷ 32 ∷ 49 ∷ 32 ∷ 49 ∷ 32 ∷ 49 ∷ 54 ∷ 32 ∷ 49 ∷ 53 ∷ 10 ∷ 51 ∷ 32 ∷ 49 ∷ 32 ∷ 49 ∷ 32 ∷ 49
+    ∷ 32 ∷ 49 ∷ 32 ∷ 49 ∷ 32 ∷ 49 ∷ 10 ∷ 52 ∷ 32 ∷ 49 ∷ 32 ∷ 49 ∷ 32 ∷ 49 ∷ 32 ∷ 49 ∷ 32 ∷ 49
+    ∷ 54 ∷ 32 ∷ 49 ∷ 53 ∷ 10 ∷ 101 ∷ 110 ∷ 100 ∷ 32 ∷ 52 ∷ 10 ∷ []
 
 pub example-says :
-    _≡_ {A = List (List (Option ℕ))} (text-says 1 example-text ∷ text-says 2 example-text ∷ []) ((some 1 ∷ some 16 ∷ some 1 ∷ some 16 ∷ []) ∷ [] ∷ [])
+    _≡_ {A = List (List (Option ℕ))} (text-says report-in 1 example-text ∷ text-says report-in 2 example-text ∷ []) ((some 1 ∷ some 16 ∷ some 1 ∷ some 16 ∷ []) ∷ [] ∷ [])
 unfolding text-says flatMap
 example-says = refl
+
+pub example-counts : _≡_ {A = List (List ℕ)} (text-says count-in 1 example-text ∷ text-says count-in 2 example-text ∷ []) ((1 ∷ 15 ∷ 1 ∷ 15 ∷ []) ∷ [] ∷ [])
+unfolding text-says flatMap
+example-counts = refl
 
 -- and these are the lines that its bytes print
 pub example-prints : bench-text example-bytes ≡ example-text
 unfolding read-as words-text file-text visits-lines visits-state visit-line visited line pointer-field head-line end-line refusal-line decimal digits places
     pointer-of kind-of passes block-table block-outputs first reset in-range start-of matrix-of value bit xor
 example-prints = refl
+
+-- so that the counts of its two rounds add to 16 each
+pub example-counts-add :
+    (added (take 2 (text-says count-in 1 (bench-text example-bytes))) ≡ 16) × (added (take 2 (drop 2 (text-says count-in 1 (bench-text example-bytes)))) ≡ 16)
+unfolding text-says flatMap added
+example-counts-add = (
+  ap (λ (text : List ℕ). added (take 2 (text-says count-in 1 text))) example-prints,
+  ap (λ (text : List ℕ). added (take 2 (drop 2 (text-says count-in 1 text)))) example-prints,
+)
 
 -- the same compare on a Level 2 machine: count 5, and level 2 after the sizes
 abbrev pub example-at-two : List ℕ

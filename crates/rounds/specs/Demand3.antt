@@ -143,7 +143,7 @@ pub record Scanning (net : Network) (m : ℕ) (given : ℕ → Table) : Type 0 w
 -- ---- the demand
 
 -- what k successive scans say, from scan j on
-unfoldable pub in-turn : (ℕ → Option ℕ) → ℕ → ℕ → List (Option ℕ)
+unfoldable pub in-turn : {A : Type 0} → (ℕ → A) → ℕ → ℕ → List A
 in-turn says j zero = []
 in-turn says j (suc k) = says j ∷ in-turn says (suc j) k
 

@@ -20,7 +20,7 @@ use Rattle.scan.specs.Scans.{scans-table}
 use Rattle.run.specs.Bench.{bench-text}
 use Rattle.rounds.specs.Demand3.{power-at}
 use Rattle.rounds.specs.Calls.{RecordCalls, PackedCalls}
-use Rattle.rounds.specs.Bench.{text-says}
+use Rattle.rounds.specs.Bench.{report-in, text-says}
 
 -- block i + 1 of a network is an MBIT
 pub record Modifies (net : Network) (i : ℕ) : Type 0 where
@@ -58,9 +58,9 @@ lit (some pointer) = true
 
 -- of an accepted file whose block i + 1 is an MBIT the text says one thing of that block for each scan, and it is lit where the block lights its lamp
 pub record ShowsLamp (bytes : Bytes) (i : ℕ) : Type 0 where
-  pub for-each : length (text-says (i + 1) (bench-text bytes)) ≡ file-in (words-in bytes) .run
+  pub for-each : length (text-says report-in (i + 1) (bench-text bytes)) ≡ file-in (words-in bytes) .run
   pub lit-where-it-lights : (j : ℕ) → let f = file-in (words-in bytes) in j < f .run →
-      lit (getD (text-says (i + 1) (bench-text bytes)) j none) ≡ lights (f .network) i (scans-table (f .network) (f .image) j)
+      lit (getD (text-says report-in (i + 1) (bench-text bytes)) j none) ≡ lights (f .network) i (scans-table (f .network) (f .image) j)
 
 abbrev pub LampPrinted : Type 0
 LampPrinted =

@@ -24,7 +24,7 @@ use Rattle.scan.proofs.Packing.{unpack-pack}
 use Rattle.scan.proofs.Repeating.{table-next}
 use Rattle.text.specs.Text.{pointer-field, line}
 use Rattle.run.specs.Visits.{table-in, packs-in, visit-outputs, visit-table, visited, visit-line, visits-state, visits-lines}
-use Rattle.run.proofs.Visiting.{scan-of, block-in-scan, states-join, lines-join, packs-exact, visit-table-exact, visit-exact}
+use Rattle.run.proofs.Visiting.{scan-of, block-in-scan, states-join, lines-join, packs-exact, visit-fits, visit-table-exact, visit-exact}
 
 -- ---- the lines of scans
 
@@ -88,7 +88,7 @@ module _ (net : Network) (good : GoodNetwork net) (t : Table) where
         ap (λ (x : List ℕ). map unpacked (take (suc k) x)) (set-split packs k (packed out) inside ∙ sym (append-assoc (take k packs) (packed out ∷ []) (drop (suc k) packs)))
         ∙ ap (map unpacked) (take-at (take k packs ++ packed out ∷ []) (drop (suc k) packs) (suc k) long)
         ∙ map-append unpacked (take k packs) (packed out ∷ [])
-        ∙ ap₂ (λ (x : List Outputs) (y : Outputs). x ++ y ∷ []) (h .outs) (unpack-pack out ∙ outputs-are)
+        ∙ ap₂ (λ (x : List Outputs) (y : Outputs). x ++ y ∷ []) (h .outs) (unpack-pack out (visit-fits net good k l state) ∙ outputs-are)
         ∙ sym (ap (λ (s : State). s .outs) (after-next net t k l))
 
     one-more : Holds net t (suc k) (visited net k state)

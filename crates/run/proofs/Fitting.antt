@@ -78,7 +78,7 @@ module _ (net : Network) where
     the-line-short : (v : ℕ) → v ≤ block-count net * 9998 → (state : List ℕ) → length (the-line v state) ≤ visit-room
     the-line-short v l state =
         let scan : v / block-count net ≤ 9998 = div-le-of-le-mul (block-count net) {m = v} {n = 9998} (omega (arith, l)) in
-        visit-short net (v / block-count net + 1) (v % block-count net) state (omega (arith, scan)) (omega (arith, mod-lt v some, good .few))
+        visit-short net good (v % block-count net) (mod-lt v some) state (v / block-count net + 1) (omega (arith, scan))
 
     pub visits-short : (v m : ℕ) (state : List ℕ) → v + m ≤ block-count net * 9998 → length (visits-lines net v m state) ≤ visit-room * m
     unfolding visits-lines

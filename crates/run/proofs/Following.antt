@@ -241,8 +241,8 @@ module _ {net : Network} {k : ℕ} {state plan : List ℕ} {size : ℕ} (S : Pla
           (λ h. set ((c ∙ coils-are o) h) ((S .sized ∙ sym table-long) h + k) ((p ∙ ap packed shown) h))
           ∙ set-append-add (visit-table net k state) (packs-in net state) k (packed (visit-outputs net k state))
 
-      pub visit-done : Visits net k state pack (set coiled (size + k) pack)
-      visit-done = record { outputs = p ∙ ap packed shown; leaves = after-is }
+      pub visit-done : Visits net k state out (set coiled (size + k) pack)
+      visit-done = record { outputs = shown; leaves = after-is }
 
   -- ---- what the functions ask for
   some-blocks : 0 < block-count net

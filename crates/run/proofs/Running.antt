@@ -21,7 +21,7 @@ use Rattle.file.proofs.Files.{network-is}
 use Rattle.text.specs.Text.{head-line, end-line, longest-line, place-after, laid}
 use Rattle.text.specs.Inner.{Put}
 use Rattle.text.proofs.Putting.{put-long, put-none, put-then, put-front, put-as}
-use Rattle.text.proofs.Laying.{head-few, end-few, laid-put}
+use Rattle.text.proofs.Laying.{head-few, last-few, laid-put}
 use Rattle.run.specs.declared.{Went.Went, visits.Reached.Reached}
 use Rattle.run.specs.Visits.{visits-state, visits-lines}
 use Rattle.run.specs.Bench.{visit-count}
@@ -51,7 +51,7 @@ module _ (text : List ℕ) where
       → Put longest-line text at (cond (eqb next visits) (end-line scans) []) end after
   a-last at next visits scans l e p =
       put-as (omega arith) (sym (ap (λ (a : Bool). cond a (end-line scans) []) (eq-eqb next visits e)))
-      (laid-put at (end-line scans) text l (end-few scans) p)
+      (laid-put at (end-line scans) text l (last-few scans) p)
 
 -- ---- a call that is not refused
 module _ {ws : List ℕ} {f : OpenedFile} {visits : ℕ} {state : List ℕ} {from : ℕ} {text : List ℕ} (p : Taken ws f visits state from text) where

@@ -111,7 +111,7 @@ module _ (net : Network) (b : Block) (t : List ℕ) (on : Power) (low : 1 ≤ b 
   unfolding work-answer work-fault
   bare-answers i =
       unless (cond (kind (b .kind)) (fault-is i) 4)
-      (finished (shows (top-as (b .kind) i) (effect-is i .middle) (effect-is i .bottom)))
+      (finished (shows (top-as (b .kind) i) (effect-is i .middle) (effect-is i .bottom) (effect-is i .count)))
       (refused (cond (kind (b .kind)) (fault-is i) 4))
 
   pub bare-leaves : work-table thin t (power-read (b .kind) on) ≡ work-table one t on

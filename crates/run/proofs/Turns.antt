@@ -1,8 +1,9 @@
 -- The laws of turns: the blocks of a scan are visits, the line that is put for a block's turn is the visit's, and one block after another.
 -- Assumes nothing.
 use mathlib.Core.Path.{_≡_, refl, sym, ap, ap₂, _∙_, subst}
-use mathlib.Core.Bool.{Bool, false, cond, _&&_}
-use mathlib.Core.List.{List, [], _∷_, _++_}
+use mathlib.Core.Bool.{Bool, cond, _&&_}
+use mathlib.Core.List.{List, _++_}
+use mathlib.Core.Logic.{_⊎_, ⊎-elim}
 use Prim.Native.Nat.{ℕ, zero, suc, _+_, _-_, _*_, _/_, _%_, _≤_, _<_}
 use native.Mathlib.Omega.{arith}
 use borrow.Author.Tests.{lt-ltb, le-ltb, lt-leb, le-leb}
@@ -12,19 +13,18 @@ use Rattle.verdict.specs.Promise.{Leaves}
 use Rattle.table.specs.Table.{total}
 use Rattle.network.specs.Network.{Network, block-count, block-of}
 use Rattle.plan.proofs.Plans.{plan-has, plan-long}
-use Rattle.blocks.specs.Kind.{has-pointer}
-use Rattle.blocks.specs.Packed.{unpacked}
+use Rattle.blocks.specs.declared.Outputs.{Outputs}
+use Rattle.blocks.specs.Work.{shows}
+use Rattle.blocks.proofs.Counted.{only-compares-count}
 use Rattle.scan.specs.Scans.{pointer-of}
-use Rattle.scan.proofs.Packing.{unpack-pack}
-use Rattle.text.specs.Text.{label-text, labelled-line, line, decimal, pointer-field, longest-line, place-after, laid}
+use Rattle.text.specs.Text.{label-text, labelled-line, line, decimal, no-pointer, pointer-field, uncounted, longest-line, place-after, laid}
 use Rattle.text.specs.Inner.{Put}
 use Rattle.text.proofs.Labels.{label-says, labelled}
 use Rattle.text.proofs.Laying.{laid-put}
 use Rattle.text.proofs.Putting.{put-none, put-long, put-as, put-then, put-few}
-use Rattle.run.specs.Visits.{visit-outputs, visit-table, visited, visit-line, visits-state, visits-lines}
+use Rattle.run.specs.Visits.{table-in, visit-power, visit-outputs, visit-table, visited, visit-line, visits-state, visits-lines}
 use Rattle.run.specs.Page.{visit-room}
-use Rattle.run.specs.Inner.{Visits, stop-at, blocks-state, blocks-lines, Turned, Turnable, Lined, InScan, Scannable, ScanMade}
-use Rattle.run.proofs.Following.{kind-of-step}
+use Rattle.run.specs.Inner.{stop-at, blocks-state, blocks-lines, Turned, Turnable, Lined, InScan, Scannable, ScanMade}
 use Rattle.run.proofs.Visiting.{scan-of, block-in-scan, visit-short, visit-exact}
 
 -- ---- the blocks of a scan are visits
@@ -61,53 +61,56 @@ module _ (k many count : ℕ) where
   pub stop-last : count ≤ k + many → count ≡ stop-at k many count
   stop-last l = sym (ap (λ (a : Bool). cond a (k + many) count) (le-ltb (k + many) count l))
 
--- ---- a kind without a pointer shows none, whatever it is given
-module _ (kind x y : ℕ) where
-  none-shown : has-pointer kind ≡ false → pointer-field kind x ≡ pointer-field kind y
+-- ---- what stands for a block's pointer in its line, by its kind
+module _ (kind pointer : ℕ) where
+  pub shows-pointer : 5 ≤ kind → kind ≤ 7 → decimal pointer ≡ pointer-field kind pointer
   unfolding pointer-field
-  none-shown e = ap (λ (a : Bool). cond a (decimal x) (45 ∷ [])) e ∙ sym (ap (λ (a : Bool). cond a (decimal y) (45 ∷ [])) e)
+  shows-pointer l u = sym (ap₂ (λ (a c : Bool). cond (a && c) (decimal pointer) no-pointer) (le-leb 5 kind l) (le-leb kind 7 u))
 
-  pub none-before : kind < 5 → pointer-field kind x ≡ pointer-field kind y
-  none-before l = none-shown (ap (λ (a : Bool). a && leb kind 7) (lt-leb 5 kind l))
+  pub shows-none : (kind < 5) ⊎ (7 < kind) → no-pointer ≡ pointer-field kind pointer
+  unfolding pointer-field
+  shows-none h = sym (ap (λ (a : Bool). cond a (decimal pointer) no-pointer) (⊎-elim
+      (λ l. ap (λ (a : Bool). a && leb kind 7) (lt-leb 5 kind l))
+      (λ l. ap₂ (λ (a c : Bool). a && c) (le-leb 5 kind (omega (arith, l))) (lt-leb kind 7 l)) h))
 
-  pub none-after : 7 < kind → pointer-field kind x ≡ pointer-field kind y
-  none-after l = none-shown (ap₂ (λ (a c : Bool). a && c) (le-leb 5 kind (omega (arith, l))) (lt-leb kind 7 l))
-
--- ---- the line of a turn
-module _ {net : Network} {scan : ℕ} {state : List ℕ} {size : ℕ} {plan labels : List ℕ} {label k : ℕ} (T : Turned net scan state size plan labels label k) {out : ℕ} {left : List ℕ}
-    (did : Visits net k state out left) {kind : ℕ} (q : kind ≡ getD plan (24 * k) 0) (pointer : ℕ)
-    (shows : pointer-field (block-of net k .kind) pointer ≡ pointer-field (block-of net k .kind) (pointer-of net (block-of net k) (visit-table net k state))) where
-  kind-is : kind ≡ block-of net k .kind
-  kind-is = q ∙ kind-of-step (T .stepped)
-
+-- ---- the line of a turn: its outputs are the visit's, and what stands for its pointer
+module _ {net : Network} {scan : ℕ} {state : List ℕ} {size : ℕ} {plan labels : List ℕ} {label k : ℕ} (T : Turned net scan state size plan labels label k)
+    {shown : Outputs} (o : shown ≡ visit-outputs net k state) {left : List ℕ} (left-is : left ≡ visited net k state)
+    {mark : List ℕ} (m : mark ≡ pointer-field (block-of net k .kind) (pointer-of net (block-of net k) (visit-table net k state))) where
   block-low : k + 1 ≤ 128
   block-low = omega (arith, T .stepped .there, T .stepped .good .few)
 
   abbrev the-line : List ℕ
-  the-line = labelled-line label (getD labels k 0) (unpacked out) (pointer-field kind pointer)
+  the-line = labelled-line label (getD labels k 0) shown mark
 
   line-put : the-line ≡ visit-line net scan k state
   unfolding visit-line
   line-put =
-      labelled label (getD labels k 0) scan (k + 1) (unpacked out) (pointer-field kind pointer)
+      labelled label (getD labels k 0) scan (k + 1) shown mark
       (ap label-text (T .scan-label) ∙ label-says scan (omega (arith, T .scan-small)))
       (ap label-text (T .block-label) ∙ label-says (k + 1) (omega (arith, block-low)))
-      ∙ ap₂ (line scan (k + 1))
-      (ap unpacked (did .outputs) ∙ unpack-pack (visit-outputs net k state))
-      (ap (λ (x : ℕ). pointer-field x pointer) kind-is ∙ shows)
+      ∙ ap₂ (line scan (k + 1)) o m
 
   line-room : length (visit-line net scan k state) ≤ visit-room
-  line-room = visit-short net scan k state (omega (arith, T .scan-small)) (omega (arith, block-low))
+  line-room = visit-short net (T .stepped .good) k (T .stepped .there) state scan (omega (arith, T .scan-small))
 
   pub is-lined : {text after : List ℕ} {at next : ℕ} → Leaves (place-after at the-line text) (laid at the-line text) next after
       → Lined net scan k state text at next left after
   is-lined {text} {after} {at} {next} p = record {
-    leaves = did .leaves;
+    leaves = left-is;
     puts = λ room.
         let few : length the-line ≤ visit-room = omega (arith, line-room, ap length line-put) in
         let put = laid-put at the-line text room (omega (arith, few)) p in
         put-few {most = longest-line} line-room (put-as (omega arith) line-put put);
   }
+
+-- a block that is no compare counts nothing
+pub counts-none : (net : Network) (k : ℕ) (state : List ℕ) {out : Outputs} → out ≡ visit-outputs net k state → (block-of net k .kind ≡ 5 → ⊥)
+    → uncounted out ≡ visit-outputs net k state
+counts-none net k state {out} e other =
+    ap uncounted e
+    ∙ ap (shows (visit-outputs net k state .top) (visit-outputs net k state .middle) (visit-outputs net k state .bottom))
+    (sym (only-compares-count net (block-of net k) (table-in net state) other (visit-power net k state)))
 
 -- ---- one block more of a scan
 module _ {net : Network} {scan : ℕ} {state₀ : List ℕ} {size : ℕ} {plan labels : List ℕ} {label first end : ℕ} (R : InScan net scan state₀ size plan labels label first end) where

@@ -11,6 +11,7 @@ use Rattle.table.specs.Table.{total}
 use Rattle.network.specs.Network.{Network, block-count, block-of}
 use Rattle.network.specs.Sound.{GoodNetwork}
 use Rattle.blocks.specs.Truths.{Runs}
+use Rattle.blocks.proofs.Counted.{count-fits}
 use Rattle.blocks.proofs.Written.{same-long}
 use Rattle.scan.specs.Scans.{pointer-of}
 use Rattle.text.proofs.Laying.{line-short}
@@ -50,11 +51,16 @@ module _ (net : Network) (v m : ℕ) (state : List ℕ) where
       ∙ append-assoc (visits-lines net v m state) (visits-lines net (v + m) n (visits-state net v m state))
       (visit-line net ((v + m + n) / block-count net + 1) ((v + m + n) % block-count net) (visits-state net (v + m) n (visits-state net v m state)))
 
--- ---- a line is short, in scans and of blocks that are not too high
-pub visit-short : (net : Network) (s k : ℕ) (state : List ℕ) → s < 10000 → k + 1 < 1000 → length (visit-line net s k state) ≤ visit-room
-unfolding visit-line
-visit-short net s k state l u =
-    line-short s (k + 1) l u (visit-outputs net k state) (block-of net k .kind) (pointer-of net (block-of net k) (visit-table net k state))
+-- ---- a block's count has room in a packed number and in a line, and a line is short, in scans that are not too high
+module _ (net : Network) (good : GoodNetwork net) (k : ℕ) (there : k < block-count net) (state : List ℕ) where
+  pub visit-fits : visit-outputs net k state .count < 8192
+  visit-fits = count-fits net k (block-of net k) (table-in net state) (good .blocks k there) (visit-power net k state)
+
+  pub visit-short : (s : ℕ) → s < 10000 → length (visit-line net s k state) ≤ visit-room
+  unfolding visit-line
+  visit-short s l =
+      line-short s (k + 1) l (omega (arith, there, good .few)) (visit-outputs net k state) (omega (arith, visit-fits))
+      (block-of net k .kind) (pointer-of net (block-of net k) (visit-table net k state))
 
 -- ---- a state is as long as before
 module _ (net : Network) (good : GoodNetwork net) where

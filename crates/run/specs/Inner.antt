@@ -17,7 +17,6 @@ use Rattle.file.specs.declared.checker.OpenedFile.{OpenedFile}
 use Rattle.file.specs.File.{file-in, opened-file}
 use Rattle.blocks.specs.declared.{Power.Power, Outputs.Outputs, Located.Located}
 use Rattle.kinds.specs.Call.{work-answer, work-table}
-use Rattle.blocks.specs.Packed.{packed}
 use Rattle.text.specs.Text.{label-of, longest-line}
 use Rattle.text.specs.Inner.{Put}
 use Rattle.plan.specs.declared.{Look.Look, Spot.Spot}
@@ -147,9 +146,9 @@ pub record Visitable (k : ℕ) (state plan : List ℕ) (size : ℕ) : Type 0 whe
   pub net : Network
   pub stepped : Planned net k state plan size
 
--- ---- what a visit does: it gives the block's outputs, packed, and leaves the state
-pub record Visits (net : Network) (k : ℕ) (state : List ℕ) (out : ℕ) (after : List ℕ) : Type 0 where
-  pub outputs : out ≡ packed (visit-outputs net k state)
+-- ---- what a visit does: it gives the block's outputs and leaves the state
+pub record Visits (net : Network) (k : ℕ) (state : List ℕ) (out : Outputs) (after : List ℕ) : Type 0 where
+  pub outputs : out ≡ visit-outputs net k state
   pub leaves : after ≡ visited net k state
 
 -- ---- whose turn it is: a visit by its scan and its block

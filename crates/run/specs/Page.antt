@@ -25,7 +25,7 @@ last-line f next = cond (eqb next (visit-count f)) (end-line (f .run)) []
 
 -- the bytes that the line of a visit may take in a run of at most 1000 scans
 abbrev pub visit-room : ℕ
-visit-room = 21
+visit-room = 26
 
 -- the least room of a call: for the first line, one visit, the last line
 abbrev pub least-room : ℕ

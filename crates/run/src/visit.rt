@@ -1,4 +1,4 @@
-// The visit of a block: the power on its inputs, its work, its coils, its outputs into their place in the state; and its pointer.
+// The visit of a block: the power on its inputs, its work, its coils, its outputs packed into their place in the state; and its pointer.
 use blocks::Located;
 use blocks::Outputs;
 use blocks::Power;
@@ -147,8 +147,8 @@ pub(crate) fn pointer(state: &[u16], plan: &[u32], i: usize) -> u16
     state[at]
 }
 
-// The visit of the block after the first k, on a state whose table has so many words: its outputs, packed.
-pub(crate) fn visit(state: &mut [u16], size: usize, plan: &[u32], k: usize) -> u16
+// The visit of the block after the first k, on a state whose table has so many words: its outputs.
+pub(crate) fn visit(state: &mut [u16], size: usize, plan: &[u32], k: usize) -> Outputs
     requires { ⌜ Visitable k (now state) (now plan) size ⌝ }
     ensures { λ r. ⌜
         ((net : Network) → Planned net k (now (state .entry)) (now (plan .entry)) size → Visits net k (now (state .entry)) r (now (state .exit))) ⌝ }
@@ -156,7 +156,6 @@ pub(crate) fn visit(state: &mut [u16], size: usize, plan: &[u32], k: usize) -> u
     let i = STEP * k;
     let out = work(state, size, plan, i);
     put_spots(state, plan, i + 15, out);
-    let packed = blocks::packed(out);
-    state[size + k] = packed;
-    packed
+    state[size + k] = blocks::packed(out);
+    out
 }

@@ -1,7 +1,9 @@
 // Visits one after the other, each with its line put into a lent buffer.
 use crate::visit::pointer;
 use crate::visit::visit;
-use lines::put_line;
+use lines::put_compare_line;
+use lines::put_plain_line;
+use lines::put_pointed_line;
 use network::MOST_BLOCKS;
 use network::Opened;
 use plan::PLAN;
@@ -18,7 +20,7 @@ ghost use Rattle.text.specs.Text.{label-of, longest-line};
 ghost use Rattle.run.specs.Inner.{turn-at, at-once, stop-at, Turned, Turnable, Lined, InScan, Scannable, ScanMade, OpensFront, Ahead, Made};
 
 // The bytes that the line of a visit may take in a run of at most 1000 scans.
-pub const VISIT_ROOM: usize = 21;
+pub const VISIT_ROOM: usize = 26;
 
 // What a plan is filled with where there is no block: no kind has this number.
 const NO_KIND: u32 = 9;
@@ -83,14 +85,15 @@ fn visit_and_put(
 {
     let out = visit(state, size, plan, k);
     let kind = plan[STEP * k] as u16;
-    if kind < 5 {
-        return put_line(text, at, label, labels[k], out, kind, 0);
+    if kind == 5 {
+        let shown = pointer(state, plan, STEP * k);
+        return put_compare_line(text, at, label, labels[k], out, shown);
     }
-    if 7 < kind {
-        return put_line(text, at, label, labels[k], out, kind, 0);
+    if 5 < kind && kind < 8 {
+        let shown = pointer(state, plan, STEP * k);
+        return put_pointed_line(text, at, label, labels[k], out, shown);
     }
-    let shown = pointer(state, plan, STEP * k);
-    put_line(text, at, label, labels[k], out, kind, shown)
+    put_plain_line(text, at, label, labels[k], out)
 }
 
 // The visits of a scan's blocks from one on, up to another, in the scan of a label.

@@ -22,7 +22,7 @@ use Rattle.blocks.specs.Packed.{packed, unpacked}
 use Rattle.scan.specs.Scan.{State, step, steps, scanned}
 use Rattle.scan.specs.Inner.{Next, Ran, power-of, located-at, AllRan}
 use Rattle.scan.proofs.Kept.{exact-after}
-use Rattle.scan.proofs.Packing.{all-back}
+use Rattle.scan.proofs.Packing.{back-after}
 use Rattle.scan.proofs.Scanning.{after, after-next, outs-count, after-all}
 
 -- ---- what the code says of a block by the areas is true of it in the network
@@ -101,7 +101,7 @@ module _ {net : Network} {t outputs : List ℕ} {k : ℕ} {table packs : List �
     unfolding block on
     power-same =
         ap₂ (λ (x : List ℕ) (os : List Outputs). power-on net x os (block .inputs)) (h .table-so-far)
-        (ap (map unpacked) earlier ∙ all-back (after net t k .outs))
+        (ap (map unpacked) earlier ∙ back-after net t (h .good) k (h .count))
 
     out : Outputs
     out = block-outputs net block (after net t k .table) on

@@ -1,6 +1,6 @@
 -- P1 to P14 of document 01 ("Both sides of the edges, in hex words"), one table, and the statement about all of it: a row has the case's
 -- label, its network of one block at any level, the table before the scan, and the table and the outputs after it. P14's middle output is
--- that of document 02, ticket 2. Assumes nothing.
+-- that of document 02, ticket 2, and the counts of P5 to P9 are those of ticket 3. Assumes nothing.
 use Prim.Native.Nat.{ℕ}
 use Prim.Native.String.{String}
 use mathlib.Core.Path.{_≡_}
@@ -93,9 +93,12 @@ MBIT = 6
 abbrev BROT : ℕ
 BROT = 8
 
--- the top output is on in every case; of the middle and the bottom output it is said
+-- the top output is on in every case; of the middle and the bottom output, and of a compare's count, it is said
 abbrev on-and : Bool → Bool → Outputs
-on-and middle bottom = shows true middle bottom
+on-and middle bottom = shows true middle bottom 0
+
+abbrev examining : ℕ → Bool → Bool → Outputs
+examining count middle bottom = shows true middle bottom count
 
 -- ---- the table; P10 has two rows, with wrap and without it
 abbrev pub cases : List Case
@@ -104,11 +107,11 @@ cases =
     ∷ case "P2" (usual OR 1 top-on) (registers 0x3000 0x5000 0 0) (registers 0x3000 0x7000 0 0) (on-and false false)
     ∷ case "P3" (usual XOR 1 top-on) (registers 0x3000 0x5000 0 0) (registers 0x3000 0x6000 0 0) (on-and false false)
     ∷ case "P4" (usual COMP 1 top-on) (registers 0x3000 0x5000 0 0) (registers 0x3000 0xcfff 0 0) (on-and false false)
-    ∷ case "P5" (usual CMPR 1 top-on) (registers 0x8001 0 0x0000 0) (registers 0x8001 1 0x0000 0) (on-and true true)
-    ∷ case "P6" (usual CMPR 1 top-on) (registers 0x8001 1 0x0000 0) (registers 0x8001 16 0x0000 0) (on-and true true)
-    ∷ case "P7" (usual CMPR 1 top-on) (registers 0x8001 16 0x0000 0) (registers 0x8001 1 0x0000 0) (on-and true true)
-    ∷ case "P8" (usual CMPR 1 top-on) (registers 0x0000 0 0x4000 0) (registers 0x0000 2 0x4000 0) (on-and true false)
-    ∷ case "P9" (usual CMPR 1 top-on) (registers 0x0000 2 0x4000 0) (registers 0x0000 16 0x4000 0) (on-and false false)
+    ∷ case "P5" (usual CMPR 1 top-on) (registers 0x8001 0 0x0000 0) (registers 0x8001 1 0x0000 0) (examining 1 true true)
+    ∷ case "P6" (usual CMPR 1 top-on) (registers 0x8001 1 0x0000 0) (registers 0x8001 16 0x0000 0) (examining 15 true true)
+    ∷ case "P7" (usual CMPR 1 top-on) (registers 0x8001 16 0x0000 0) (registers 0x8001 1 0x0000 0) (examining 1 true true)
+    ∷ case "P8" (usual CMPR 1 top-on) (registers 0x0000 0 0x4000 0) (registers 0x0000 2 0x4000 0) (examining 2 true false)
+    ∷ case "P9" (usual CMPR 1 top-on) (registers 0x0000 2 0x4000 0) (registers 0x0000 16 0x4000 0) (examining 14 false false)
     ∷ case "P10" (usual BROT 1 top-and-bottom) (registers 0x0001 0x5555 0 0) (registers 0x0001 0x8000 0 0) (on-and true false)
     ∷ case "P10, without wrap" (usual BROT 1 top-on) (registers 0x0001 0x5555 0 0) (registers 0x0001 0x0000 0 0) (on-and true false)
     ∷ case "P11" (over-registers (block BROT 2 1 3 all-on)) (registers 0x8000 0x0001 0x5555 0x5555) (registers 0x8000 0x0001 0x0000 0x0003) (on-and true false)

@@ -27,6 +27,6 @@ ScanKeepsInputs =
     let z = network-in ws .sizes in 16 * z .coils < p → p ≤ 16 * (z .coils + z .discretes + z .inputs) →
     bit (scan-table ws t room) p ≡ bit t p
 
--- outputs that are packed and unpacked are the same
+-- outputs whose count has room are the same after they are packed and unpacked; every block's count has
 abbrev pub UnpackPack : Type 0
-UnpackPack = (o : Outputs) → unpacked (packed o) ≡ o
+UnpackPack = (o : Outputs) → o .count < 8192 → unpacked (packed o) ≡ o

@@ -49,8 +49,8 @@ fn run_all(words: &[u16], o: Opened, table: &mut [u16], outputs: &mut [u16])
     }
 }
 
-// One scan of the network that the words spell, on the table of its areas. Each block's outputs come back as one number, top
-// worth 1, middle 2, bottom 4; entries after the last block's stay.
+// One scan of the network that the words spell, on the table of its areas. Each block's outputs and its count come back as one number,
+// top worth 1, middle 2, bottom 4, each pair counted 8; entries after the last block's stay.
 pub fn scan_packed(words: &[u16], table: &mut [u16], outputs: &mut [u16]) -> Verdict
     ensures { λ r. ⌜
         LeavesTwo

@@ -15,11 +15,7 @@ use Rattle.runs.specs.Run.{run, unless}
 use Rattle.search.specs.declared.Difference.{Difference}
 use Rattle.search.specs.declared.Difference.the-variants.{At, Nothing, Refused}
 use Rattle.search.specs.Search.{first-differing, difference-said, search-fault, first-said}
-
--- a position found, or none, as an answer
-abbrev pub reported : Option ℕ → Difference
-reported none = Nothing
-reported (some p) = At p
+use Rattle.search.specs.Inner.{reported}
 
 -- the answer itself
 unfoldable pub first-difference : List ℕ → ℕ → ℕ → ℕ → ℕ → Difference

@@ -15,7 +15,8 @@ use Rattle.search.specs.declared.Difference.the-variants.{At, Nothing, R
 use Rattle.runs.specs.Run.{run, fault}
 use Rattle.bits.specs.Bit.{longest-whole}
 use Rattle.search.specs.Search.{differing, first, first-differing, NoneLater, FirstLater, NothingMeansNone, AtMeansFirst}
-use Rattle.search.proofs.Answers.{reported, first-difference, told}
+use Rattle.search.specs.Inner.{reported}
+use Rattle.search.proofs.Answers.{first-difference, told}
 use Rattle.runs.proofs.Refusals.{unless-done, unless-refused}
 
 -- ---- the first of the k positions after i at which f is on

@@ -9,9 +9,9 @@ ghost use mathlib.Core.Bool.{true};
 ghost use Prim.Native.Nat.{_≤_};
 ghost use lib.ListN.{length};
 ghost use Rattle.bits.specs.Bit.{longest-whole};
-ghost use Rattle.runs.specs.Run.{Accepted};
-ghost use Rattle.search.specs.Inner.{Passed, Paired, Equal};
-ghost use Rattle.search.specs.Search.{difference-said, first-said};
+ghost use Rattle.runs.specs.Run.{run, Accepted};
+ghost use Rattle.search.specs.Inner.{reported, Paired, Equal};
+ghost use Rattle.search.specs.Search.{first-differing, difference-said, first-said};
 
 // A position, counted from 1, at which two matrices differ; nothing, where no later position differs; or a refusal.
 pub enum Difference {
@@ -49,31 +49,33 @@ fn equal_from(x: &[u16], y: &[u16], n: usize, from: usize) -> usize
     k
 }
 
-// How many positions of the n words from a on and from b on are passed, from `above` on, before the first that differs; as
-// many as there are, or more, where none does. Words that are equal are passed without a look at their positions.
-fn passed_from(table: &[u16], a: usize, b: usize, n: usize, above: usize) -> usize
+// The first position above `above` at which the n words from a on and from b on differ, or nothing. Words that are equal are passed
+// without a look at their positions.
+fn first_from(table: &[u16], a: usize, b: usize, n: usize, above: usize) -> Difference
     requires { ⌜ Accepted longest-whole (length (now table)) n a b ⌝ }
-    ensures { λ r. ⌜ Passed (now (table .entry)) a b n above r ⌝ }
+    ensures { λ r. ⌜ r ≡ reported (first-differing (run (now (table .entry)) a n) (run (now (table .entry)) b n) n above) ⌝ }
 {
     let x = &table[a..a + n];
     let y = &table[b..b + n];
     let end = 16 * n;
     let mut passed = above;
+    let mut found = Difference::Nothing;
     'words: while passed < end {
         let k = passed / 16;
         let apart = bits::xor_words(x[k], y[k]);
-        let next = 16 * k + 16;
         if apart != 0 {
-            while passed < next {
-                if bits::bit_at(apart, (passed % 16 + 1) as u16) {
+            let mut j = (passed % 16) as u16;
+            while j < 16 {
+                if bits::bit_at(apart, j + 1) {
+                    found = Difference::At((16 * k) as u16 + j + 1);
                     break 'words;
                 }
-                passed += 1;
+                j += 1;
             }
         }
         passed = 16 * equal_from(x, y, n, k + 1);
     }
-    passed
+    found
 }
 
 // The first position above `above` at which the n words from a on and the n words from b on differ.
@@ -84,9 +86,5 @@ pub fn first_difference(table: &[u16], a: usize, b: usize, n: usize, above: u16)
     if number != 0 {
         return Difference::Refused(Verdict { number, place: 0 });
     }
-    let passed = passed_from(table, a, b, n, above as usize);
-    if passed < 16 * n {
-        return Difference::At((passed + 1) as u16);
-    }
-    Difference::Nothing
+    first_from(table, a, b, n, above as usize)
 }

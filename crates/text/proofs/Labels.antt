@@ -1,22 +1,21 @@
 -- The laws of labels: low bytes of a number, a number from its bytes, the label of a number and a space, the word of the three
--- outputs, and a line put from labels. Assumes nothing.
-use mathlib.Core.Path.{_≡_, refl, sym, ap, ap₂, _∙_}
+-- outputs, and a line put from labels, its end by pieces. Assumes nothing.
+use mathlib.Core.Path.{_≡_, refl, sym, ap, ap₂, _∙_, subst}
+use mathlib.Core.Bool.{Bool, true, false}
 use mathlib.Core.List.{List, [], _∷_, _++_, append-assoc}
 use Prim.Native.Nat.{ℕ, zero, suc, _+_, _-_, _*_, _/_, _%_, _^_, _≤_, _<_}
 use native.Mathlib.Nat.{mul-assoc, pow-suc, pow-succ', pow-le-pow-right, div-one, div-div-eq-div-mul}
 use native.Mathlib.Numerals.{add-one}
 use native.Mathlib.Omega.{arith}
+use mir.Val.{boolByte}
 use lib.Bits.{bitAnd, bitOr}
-use lib.Dec.{eqb}
 use lib.ListN.{length, take, drop, length-append, take-append-drop}
 use lib.Seq.{take-at}
 use Rattle.blocks.specs.declared.Outputs.{Outputs}
-use Rattle.blocks.specs.Packed.{unpacked}
-use Rattle.bits.specs.Bit.{bit}
-use Rattle.text.specs.Text.{places, digits, decimal, field, digit, output-fields, pointer-field, line, longest-line, low, label-text, value-of, label-of, labelled-line}
+use Rattle.text.specs.Text.{places, digits, decimal, field, digit, output-fields, line-end, line, longest-line, low, label-text, value-of, label-of, labelled-line}
 use Rattle.text.specs.Inner.{Put, Over}
-use Rattle.text.proofs.Putting.{put-then, put-as, covered}
-use Rattle.text.proofs.Laying.{digits-length, places-few, shown-some}
+use Rattle.text.proofs.Putting.{put-over, put-then, put-as, put-few, covered}
+use Rattle.text.proofs.Laying.{digits-length, places-few, end-few}
 
 -- ---- low bytes
 low-length : (k x : ℕ) → length (low k x) ≡ k
@@ -141,7 +140,7 @@ label-says n l = label-field n refl
 pub labelled : (x y s k : ℕ) (out : Outputs) (mark : List ℕ) → label-text x ≡ field s → label-text y ≡ field k
     → labelled-line x y out mark ≡ line s k out mark
 unfolding labelled-line line
-labelled x y s k out mark p q = ap₂ (λ (a b : List ℕ). a ++ b ++ output-fields out ++ mark ++ 10 ∷ []) p q
+labelled x y s k out mark p q = ap₂ (λ (a b : List ℕ). a ++ b ++ output-fields out ++ line-end mark (out .count)) p q
 
 -- ---- the label made byte by byte, from the space to the highest digit
 abbrev spelled : ℕ → ℕ → ℕ
@@ -175,35 +174,19 @@ pub label-fits : (m four five : ℕ) → four < 2 ^ 48 → five ≡ 48 + m % 10 
 label-fits m four five l e = omega arith
 
 -- ---- the word of the three outputs
-eight-outputs : (o : ℕ) → o < 8 → low 8 (bitOr (bitAnd (o * 1073774593) 4295032833) 35391070543920) ≡ output-fields (unpacked o) ++ 0 ∷ 0 ∷ []
-unfolding low bit
-eight-outputs zero l = refl
-eight-outputs (suc zero) l = refl
-eight-outputs (suc (suc zero)) l = refl
-eight-outputs (suc (suc (suc zero))) l = refl
-eight-outputs (suc (suc (suc (suc zero)))) l = refl
-eight-outputs (suc (suc (suc (suc (suc zero))))) l = refl
-eight-outputs (suc (suc (suc (suc (suc (suc zero)))))) l = refl
-eight-outputs (suc (suc (suc (suc (suc (suc (suc zero))))))) l = refl
-eight-outputs (suc (suc (suc (suc (suc (suc (suc (suc o)))))))) l = absurd (omega arith)
+outputs-word-of : (a b c : Bool) → low 8 (bitOr (bitAnd ((boolByte a + 2 * boolByte b + 4 * boolByte c) * 1073774593) 4295032833) 35391070543920) ≡ digit a ∷ 32 ∷ digit b ∷ 32 ∷ digit c ∷ 32 ∷ 0 ∷ 0 ∷ []
+unfolding low
+outputs-word-of true true true = refl
+outputs-word-of true true false = refl
+outputs-word-of true false true = refl
+outputs-word-of true false false = refl
+outputs-word-of false true true = refl
+outputs-word-of false true false = refl
+outputs-word-of false false true = refl
+outputs-word-of false false false = refl
 
--- the outputs are the three low bits
-low-top : (w : ℕ) → w % 8 / 1 % 2 ≡ w / 1 % 2
-low-top w = omega arith
-
-low-middle : (w : ℕ) → w % 8 / 2 % 2 ≡ w / 2 % 2
-low-middle w = omega arith
-
-low-bottom : (w : ℕ) → w % 8 / 4 % 2 ≡ w / 4 % 2
-low-bottom w = omega arith
-
-low-outputs : (w : ℕ) → output-fields (unpacked (w % 8)) ≡ output-fields (unpacked w)
-unfolding bit
-low-outputs w =
-    λ i. digit (eqb (low-top w i) 1) ∷ 32 ∷ digit (eqb (low-middle w i) 1) ∷ 32 ∷ digit (eqb (low-bottom w i) 1) ∷ 32 ∷ []
-
-pub outputs-word : (w : ℕ) → low 8 (bitOr (bitAnd (w % 8 * 1073774593) 4295032833) 35391070543920) ≡ output-fields (unpacked w) ++ 0 ∷ 0 ∷ []
-outputs-word w = eight-outputs (w % 8) (omega arith) ∙ ap (λ (x : List ℕ). x ++ 0 ∷ 0 ∷ []) (low-outputs w)
+pub outputs-word : (out : Outputs) → low 8 (bitOr (bitAnd ((boolByte (out .top) + 2 * boolByte (out .middle) + 4 * boolByte (out .bottom)) * 1073774593) 4295032833) 35391070543920) ≡ output-fields out ++ 0 ∷ 0 ∷ []
+outputs-word out = outputs-word-of (out .top) (out .middle) (out .bottom)
 
 -- ---- a piece that is put with spare bytes
 
@@ -215,17 +198,46 @@ low-over k x {at} l p = record {
   eight = put-as (omega arith) (sym (take-append-drop k (low 8 x)) ∙ ap (λ (t : List ℕ). t ++ drop k (low 8 x)) (low-take k 8 x l)) p;
 }
 
--- the pieces of a line: each covers the spare bytes before it, for with its line feed a line has eight bytes from the outputs on
-pub labelled-put : (scan block : ℕ) (out : Outputs) (kind pointer : ℕ) {at one two three four end : ℕ} {before first second third fourth last : List ℕ}
-    → Over before at (label-text scan) one first → Over first one (label-text block) two second → Over second two (output-fields out) three third
-    → Put 5 third three (pointer-field kind pointer) four fourth → Put 1 fourth four (10 ∷ []) end last
-    → Put longest-line before at (labelled-line scan block out (pointer-field kind pointer)) end last
+-- a label has at most seven bytes
+pub label-few : (label : ℕ) → length (label-text label) ≤ 7
+label-few label = omega (arith, low-length (label / 2 ^ 56 % 8) label)
+
+-- the labels of scan and block and then the outputs: each covers the spare bytes before it, for with its own spare ones the last has eight
+pub front-put : (scan block : ℕ) (out : Outputs) {at one two : ℕ} {before first second last : List ℕ}
+    → Over before at (label-text scan) one first → Over first one (label-text block) two second → Put 8 second two (output-fields out ++ 0 ∷ 0 ∷ []) (two + 8) last
+    → Put 22 before at (label-text scan ++ label-text block ++ output-fields out ++ 0 ∷ 0 ∷ []) (two + 6 + 2) last
+front-put scan block out {at} {one} {two} {before} {first} {second} {last} s b p =
+    let eight : List ℕ = output-fields out ++ 0 ∷ 0 ∷ [] in
+    let end : two + 8 ≡ two + 6 + 2 = omega arith in
+    subst (λ (n : ℕ). Put 22 before at (label-text scan ++ label-text block ++ output-fields out ++ 0 ∷ 0 ∷ []) n last) end
+    (put-as (omega arith) (simp append-assoc)
+    (put-few {less = 22}
+    (omega (arith, length-append (label-text scan) (label-text block ++ eight), length-append (label-text block) eight, label-few scan, label-few block))
+    (covered s (omega (arith, length-append (label-text block) eight)) (covered b (omega arith) p))))
+
+-- and then the end of the line, over the two spare bytes
+pub labelled-put : (scan block : ℕ) (out : Outputs) (mark : List ℕ) {most at next end : ℕ} {before front last : List ℕ}
+    → Put 22 before at (label-text scan ++ label-text block ++ output-fields out ++ 0 ∷ 0 ∷ []) (next + 2) front → length mark ≤ 5
+    → Put most front next (line-end mark (out .count)) end last → Put longest-line before at (labelled-line scan block out mark) end last
 unfolding labelled-line
-labelled-put scan block out kind pointer s b o p e =
-    let mark : List ℕ = pointer-field kind pointer in
-    let ended : 2 ≤ length (mark ++ 10 ∷ []) = omega (arith, length-append mark (10 ∷ []), shown-some kind pointer) in
-    let rest : List ℕ = output-fields out ++ (mark ++ 10 ∷ []) in
-    let long : 8 ≤ length rest = omega (arith, ended) in
-    put-as (omega arith) (simp append-assoc)
-    (covered s (omega (arith, length-append (label-text block) rest, long))
-    (covered b (omega (arith, long)) (covered o (omega (arith, ended)) (put-then p e))))
+labelled-put scan block out mark {most} {at} {next} p few q =
+    let front : List ℕ = label-text scan ++ label-text block ++ output-fields out in
+    let tail : List ℕ = line-end mark (out .count) in
+    let labels : List ℕ = label-text scan ++ label-text block in
+    let long : length front ≤ 20 =
+    omega (arith, length-append labels (output-fields out), length-append (label-text scan) (label-text block), label-few scan, label-few block) in
+    let ended : 2 ≤ length tail = omega (arith, length-append (mark ++ 32 ∷ decimal (out .count)) (10 ∷ []), length-append mark (32 ∷ decimal (out .count))) in
+    put-few (omega (arith, length-append front tail, long, end-few mark (out .count) few))
+    (put-over front (0 ∷ 0 ∷ []) p (omega (arith, p .reaches, length-append front (0 ∷ 0 ∷ []))) (omega (arith, q .reaches, ended)) q)
+
+-- ---- the end of a line: the pointer's field, a space, the count and a line feed
+pub end-put : (mark : List ℕ) (count : ℕ) {at one two three end : ℕ} {before first second third last : List ℕ}
+    → Put 5 before at mark one first → Put 1 first one (32 ∷ []) two second → Put 5 second two (decimal count) three third → Put 1 third three (10 ∷ []) end last
+    → Put 12 before at (line-end mark count) end last
+end-put mark count p s q e =
+    put-as (omega arith) (ap (λ (x : List ℕ). x ++ 10 ∷ []) (append-assoc mark (32 ∷ []) (decimal count))) (put-then (put-then (put-then p s) q) e)
+
+-- that of a line which counts nothing
+pub uncounted-put : (mark : List ℕ) {most at next end : ℕ} {before after last : List ℕ} → Put most before at mark next after → Put 3 after next (line-end [] 0) end last
+    → Put (most + 3) before at (line-end mark 0) end last
+uncounted-put mark p q = put-as (omega arith) (sym (append-assoc mark (32 ∷ decimal 0) (10 ∷ []))) (put-then p q)

@@ -1,5 +1,4 @@
--- The laws of a line: which kinds show a pointer, how many bytes a line takes, and a line laid into a buffer as bytes put there.
--- Assumes nothing.
+-- The laws of a line: how many bytes it takes, and a line laid into a buffer as bytes put there. Assumes nothing.
 use mathlib.Core.Path.{_≡_, refl, sym, ap, _∙_}
 use mathlib.Core.Bool.{Bool, true, false, cond}
 use mathlib.Core.List.{List, [], _∷_, _++_}
@@ -7,30 +6,16 @@ use Prim.Native.Nat.{ℕ, zero, suc, _+_, _/_, _%_, _≤_, _<_}
 use native.Mathlib.Decide.{decLt}
 use native.Mathlib.Nat.{le-trans}
 use native.Mathlib.Omega.{arith}
-use borrow.Author.Tests.{le-leb, lt-leb, leb-true}
-use lib.Dec.{ltb}
+use borrow.Author.Tests.{le-leb, leb-true}
 use lib.ListN.{length, take, drop, length-append}
 use Rattle.verdict.specs.declared.Verdict.{Verdict}
 use Rattle.verdict.specs.Promise.{Leaves}
 use Rattle.section.proofs.Walk.{le-of-not-lt}
 use Rattle.blocks.specs.declared.Outputs.{Outputs}
 use Rattle.blocks.specs.Kind.{has-pointer}
-use Rattle.text.specs.Text.{places, digits, decimal, field, output-fields, pointer-field, line, head-line, end-line, refusal-line, longest-line, line-fits, place-after, laid}
+use Rattle.text.specs.Text.{places, digits, decimal, field, output-fields, pointer-field, line-end, line, head-line, end-line, refusal-line, longest-line, line-fits, place-after, laid}
 use Rattle.text.specs.Inner.{Put}
 use Rattle.text.proofs.Putting.{places-1, places-2, places-3, places-4, places-5}
-
--- ---- the pointer that a line shows
-pub no-pointer-low : (kind pointer : ℕ) → kind < 5 → pointer-field kind pointer ≡ 45 ∷ []
-unfolding pointer-field
-no-pointer-low kind pointer l = simp (lt-leb 5 kind l)
-
-pub no-pointer-high : (kind pointer : ℕ) → 5 ≤ kind → 7 < kind → pointer-field kind pointer ≡ 45 ∷ []
-unfolding pointer-field
-no-pointer-high kind pointer l u = simp (le-leb 5 kind l, lt-leb kind 7 u)
-
-pub pointer-shown : (kind pointer : ℕ) → 5 ≤ kind → kind ≤ 7 → pointer-field kind pointer ≡ decimal pointer
-unfolding pointer-field
-pointer-shown kind pointer l u = simp (le-leb 5 kind l, le-leb kind 7 u)
 
 -- ---- how many bytes a line takes
 pub digits-length : (k n : ℕ) → length (digits k n) ≡ k
@@ -50,18 +35,7 @@ places-few n = elim (decLt n 10) [
   ]
 ]
 
-places-some : (n : ℕ) → 1 ≤ places n
-unfolding places
-places-some n = go (ltb n 10) (ltb n 100) (ltb n 1000) (ltb n 10000)
-  where
-    go : (a b c d : Bool) → 1 ≤ cond a 1 (cond b 2 (cond c 3 (cond d 4 5)))
-    go true b c d = omega arith
-    go false true c d = omega arith
-    go false false true d = omega arith
-    go false false false true = omega arith
-    go false false false false = omega arith
-
-decimal-few : (n : ℕ) → length (decimal n) ≤ 5
+pub decimal-few : (n : ℕ) → length (decimal n) ≤ 5
 unfolding decimal
 decimal-few n = omega (arith, digits-length (places n) n, places-few n)
 
@@ -71,14 +45,6 @@ shown-few kind pointer = go (has-pointer kind)
   where
     go : (b : Bool) → length (cond b (decimal pointer) (45 ∷ [])) ≤ 5
     go true = decimal-few pointer
-    go false = omega arith
-
-pub shown-some : (kind pointer : ℕ) → 1 ≤ length (pointer-field kind pointer)
-unfolding pointer-field decimal
-shown-some kind pointer = go (has-pointer kind)
-  where
-    go : (b : Bool) → 1 ≤ length (cond b (decimal pointer) (45 ∷ []))
-    go true = omega (arith, digits-length (places pointer) pointer, places-some pointer)
     go false = omega arith
 
 -- two runs of bytes take as many as both
@@ -105,24 +71,26 @@ field-low : (n most : ℕ) → places n ≤ most → length (field n) ≤ most +
 unfolding decimal
 field-low n most l = both-few (decimal n) (32 ∷ []) {i = most} {j = 1} (omega (arith, digits-length (places n) n)) (omega arith)
 
--- the line of a block by the digits of its scan and of its number
-line-by : (i j s k : ℕ) (out : Outputs) (kind pointer : ℕ) → length (field s) ≤ i → length (field k) ≤ j → length (line s k out (pointer-field kind pointer)) ≤ i + j + 12
-unfolding line
-line-by i j s k out kind pointer a b =
+-- the end of a line by the digits of its count
+end-by : (most : ℕ) (mark : List ℕ) (count : ℕ) → length mark ≤ 5 → length (decimal count) ≤ most → length (line-end mark count) ≤ most + 7
+end-by most mark count l u =
     le-trans
-    (both-few (field s ++ field k ++ output-fields out ++ pointer-field kind pointer) (10 ∷ []) {i = i + j + 6 + 5} {j = 1}
-    (both-few (field s ++ field k ++ output-fields out) (pointer-field kind pointer) {i = i + j + 6} {j = 5}
-    (both-few (field s ++ field k) (output-fields out) {i = i + j} {j = 6} (both-few (field s) (field k) {i = i} {j = j} a b) (omega arith))
-    (shown-few kind pointer))
-    (omega arith))
+    (both-few (mark ++ 32 ∷ decimal count) (10 ∷ []) {i = 6 + most} {j = 1} (le-trans (both-few mark (32 ∷ decimal count) {i = 5} {j = suc most} l (omega arith)) (omega arith)) (omega arith))
     (omega arith)
 
-pub line-short : (s k : ℕ) → s < 10000 → k < 1000 → (out : Outputs) (kind pointer : ℕ) → length (line s k out (pointer-field kind pointer)) ≤ 21
-line-short s k l u out kind pointer =
-    line-by 5 4 s k out kind pointer (field-low s 4 (places-low s l .0)) (field-low k 3 (places-low k (omega (arith, u)) .1 u))
+-- the line of a block by the digits of its scan, of its number and of its count
+pub line-short : (s k : ℕ) → s < 10000 → k < 1000 → (out : Outputs) → out .count < 10000 → (kind pointer : ℕ)
+    → length (line s k out (pointer-field kind pointer)) ≤ 26
+unfolding line decimal
+line-short s k l u out few kind pointer =
+    both-few (field s ++ field k ++ output-fields out) (line-end (pointer-field kind pointer) (out .count)) {i = 15} {j = 11}
+    (both-few (field s ++ field k) (output-fields out) {i = 9} {j = 6}
+    (both-few (field s) (field k) {i = 5} {j = 4} (field-low s 4 (places-low s l .0)) (field-low k 3 (places-low k (omega (arith, u)) .1 u))) (omega arith))
+    (end-by 4 (pointer-field kind pointer) (out .count) (shown-few kind pointer) (omega (arith, digits-length (places (out .count)) (out .count), places-low (out .count) few .0)))
 
-pub line-few : (s k : ℕ) (out : Outputs) (kind pointer : ℕ) → length (line s k out (pointer-field kind pointer)) ≤ longest-line
-line-few s k out kind pointer = le-trans (line-by 6 6 s k out kind pointer (field-few s) (field-few k)) (omega arith)
+-- the end of any line
+pub end-few : (mark : List ℕ) (count : ℕ) → length mark ≤ 5 → length (line-end mark count) ≤ 12
+end-few mark count l = end-by 5 mark count l (decimal-few count)
 
 pub head-few : (count table : ℕ) → length (head-line count table) ≤ longest-line
 unfolding head-line
@@ -134,9 +102,9 @@ head-few count table =
     (omega arith))
     (omega arith)
 
-pub end-few : (scans : ℕ) → length (end-line scans) ≤ longest-line
+pub last-few : (scans : ℕ) → length (end-line scans) ≤ longest-line
 unfolding end-line
-end-few scans =
+last-few scans =
     le-trans
     (both-few (101 ∷ 110 ∷ 100 ∷ 32 ∷ decimal scans) (10 ∷ []) {i = 9} {j = 1} (omega (arith, decimal-few scans)) (omega arith))
     (omega arith)

@@ -11,6 +11,7 @@ use Rattle.verdict.specs.declared.Verdict.{Verdict}
 use Rattle.io.specs.Digits.{Fewest, digits as kit-digits}
 use Rattle.blocks.specs.declared.Outputs.{Outputs}
 use Rattle.blocks.specs.Kind.{has-pointer}
+use Rattle.blocks.specs.Work.{shows}
 
 -- ---- numbers
 
@@ -31,7 +32,7 @@ decimal n = digits (places n) n
 abbrev pub field : ℕ → Text
 field n = decimal n ++ 32 ∷ []
 
--- ---- one line: scan, block, top, middle, bottom, pointer
+-- ---- one line: scan, block, top, middle, bottom, pointer, count
 
 -- 0 or 1 for an output
 abbrev pub digit : Bool → ℕ
@@ -41,13 +42,20 @@ abbrev pub output-fields : Outputs → Text
 output-fields out = digit (out .top) ∷ 32 ∷ digit (out .middle) ∷ 32 ∷ digit (out .bottom) ∷ 32 ∷ []
 
 -- the pointer, or `-` for kinds without one
+abbrev pub no-pointer : Text
+no-pointer = 45 ∷ []
+
 unfoldable pub pointer-field : ℕ → ℕ → Text
 unfolding decimal
-pointer-field kind pointer = cond (has-pointer kind) (decimal pointer) (45 ∷ [])
+pointer-field kind pointer = cond (has-pointer kind) (decimal pointer) no-pointer
+
+-- its end: the pointer's field and the count
+abbrev pub line-end : Text → ℕ → Text
+line-end mark count = mark ++ 32 ∷ decimal count ++ 10 ∷ []
 
 unfoldable pub line : ℕ → ℕ → Outputs → Text → Text
 unfolding decimal
-line s k out mark = field s ++ field k ++ output-fields out ++ mark ++ 10 ∷ []
+line s k out mark = field s ++ field k ++ output-fields out ++ line-end mark (out .count)
 
 -- ---- the first line, `blocks B words W`, and the last, `end S`
 unfoldable pub head-line : ℕ → ℕ → Text
@@ -93,8 +101,12 @@ label-of n = value-of (field n) + length (field n) * 2 ^ 56
 
 -- the line that has the texts of two labels for scan and block
 unfoldable pub labelled-line : ℕ → ℕ → Outputs → Text → Text
-unfolding low
-labelled-line scan block out mark = label-text scan ++ label-text block ++ output-fields out ++ mark ++ 10 ∷ []
+unfolding low decimal
+labelled-line scan block out mark = label-text scan ++ label-text block ++ output-fields out ++ line-end mark (out .count)
+
+-- outputs of a kind that counts nothing
+abbrev pub uncounted : Outputs → Outputs
+uncounted out = shows (out .top) (out .middle) (out .bottom) 0
 
 -- ---- a line laid into a buffer from a place on
 

@@ -194,7 +194,7 @@ module _ {M : Type 1} (𝓤 : URA M) (H : Heap 𝓤) (A : Atoms 𝓤) (W : Given
           -- [what the record owns; the token; what the numbers own; the row; …; _8; …]: its place, and the store
           assigns ! (bin ! (load ! (from ! (stop !)) (look ! 15 refl)) (lit ! tt) (record { fits = place-fits })) (from ! (stop !)) (init ! 9 refl (tt, record { fits = place-fits })) $
           assigns ! (bin ! (load ! (from ! (fld ! refl (stop !))) (look-in ! 21 (sub ! 0 refl (whole !)))) (load ! (from ! (stop !)) (look ! 9 refl)) tt) (from ! (stop !)) (init ! 7 refl (tt, tt)) $
-          rewrite ! 7 (λ (p : ℕ). ‵ (fat fullShare tyPtr l₈ 0 (vptr b p))) (sym (place-is 3 o k)) refl $
+          rewrite ! 7 (λ (p : ℕ). ‵ (fat fullShare tyPtr l₈ 0 (vptr b p))) (sym (place-is 6 o k)) refl $
           move ! (3 ∷ []) $ elem-out ! T.the-row (Is T.the-row) (shows 𝓤 H A T.the-row) (LL.vals T.the-type T′.the-laws) (LL.tells T.the-type T′.the-laws) fullShare (at k) k r b o inside (λ _.
           assigns ! (of-opd ! (load ! (from ! (stop !)) (look ! 13 refl))) (from ! (hop ! (look ! 9 refl) (stop !))) (store-raw ! 0 refl (typed r w is)) $
           move ! (1 ∷ []) $ drop ! $ move ! (0 ∷ 2 ∷ []) $ elem-put ! T.the-row fullShare (at k) k r (w ∷ []) b o inside $
@@ -213,7 +213,7 @@ module _ {M : Type 1} (𝓤 : URA M) (H : Heap 𝓤) (A : Atoms 𝓤) (W : Given
           inside : k < length (at k)
           inside = subst (λ (n : ℕ). k < n) (sym (filled-long (ns .now) os k (omega (arith, less)) (omega (arith, less)))) (omega (arith, less))
 
-          place-fits : k * 3 < 2 ^ 64
+          place-fits : k * 6 < 2 ^ 64
           place-fits = omega (arith, less, room .1)
       turn i false e =
           assigns ! (bin ! (load ! (from ! (stop !)) (look ! 14 refl)) (load ! (from ! (stop !)) (look ! 16 refl)) tt) (from ! (stop !)) (init ! 12 refl (tt, tt)) $

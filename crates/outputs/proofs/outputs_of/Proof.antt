@@ -1,5 +1,8 @@
 -- `outputs::outputs_of` meets its contract. Assumes nothing.
+use Prim.Native.Nat.{_/_}
 use borrow.Author.Needs.{needs}
+use denote.Ref.{now}
+use lib.ListN.{getD}
 use Rattle.outputs.proofs.outputs_of.Statement.{statement}
 use Rattle.outputs.proofs.outputs_of.Tie as tie
 
@@ -19,7 +22,14 @@ bit-at-requires-3 : tie.Need-bit-at-requires-3
 bit-at-requires-3 c κs = search needs
 
 returns : tie.Need-returns
-returns c i = record { top = c .before .before .bit-at .ensures i; middle = c .before .bit-at2 .ensures i; bottom = c .bit-at3 .ensures i }
+returns c i =
+    let x = c .before .before .before .before .before .args in
+    record {
+      top = c .before .before .bit-at .ensures i;
+      middle = c .before .bit-at2 .ensures i;
+      bottom = c .bit-at3 .ensures i;
+      count = getD (now (x .numbers)) (x .k) 0 / 8;
+    }
 
 pub outputs-of-spec : {M : Type 1} → statement M
 outputs-of-spec =

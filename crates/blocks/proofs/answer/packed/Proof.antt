@@ -1,8 +1,8 @@
--- `blocks::answer::packed` meets its contract: three digits of a binary number. Assumes nothing.
+-- `blocks::answer::packed` meets its contract: three digits of a binary number, and the count above them. Assumes nothing.
 use mathlib.Core.Path.{_≡_, refl}
 use mathlib.Core.Bool.{Bool, true, false, cond}
 use native.Mathlib.Omega.{arith}
-use Prim.Native.Nat.{_≤_, _+_, _*_}
+use Prim.Native.Nat.{_≤_, _+_, _*_, _%_}
 use mir.Val.{boolByte}
 use borrow.Author.Needs.{needs}
 use Rattle.blocks.proofs.answer.packed.Statement.{statement}
@@ -37,8 +37,14 @@ mul-result-2 c = let x = c .before .before .before .args .out in omega (arith, s
 add-result-2 : tie.Need-add-result-2
 add-result-2 c = let x = c .before .before .before .args .out in omega (arith, small (x .top), small (x .middle), small (x .bottom))
 
+mul-result-3 : tie.Need-mul-result-3
+mul-result-3 c = search needs
+
+add-result-3 : tie.Need-add-result-3
+add-result-3 c = let x = c .before .before .before .before .args .out in omega (arith, small (x .top), small (x .middle), small (x .bottom))
+
 returns : tie.Need-returns
-returns c = let x = c .before .before .before .args .out in λ i. digit (x .top) i + 2 * digit (x .middle) i + 4 * digit (x .bottom) i
+returns c = let x = c .before .before .before .before .args .out in λ i. digit (x .top) i + 2 * digit (x .middle) i + 4 * digit (x .bottom) i + 8 * (x .count % 8192)
 
 pub packed-spec : {M : Type 1} → statement M
 packed-spec =
@@ -51,4 +57,6 @@ packed-spec =
     cast-result-3
     mul-result-2
     add-result-2
+    mul-result-3
+    add-result-3
     returns)

@@ -1,7 +1,7 @@
 -- `pointed::cmpr::compare` meets its contract. The source's bit is read before the pointer is written. Assumes nothing.
-use mathlib.Core.Path.{_≡_, sym, ap, _∙_}
-use mathlib.Core.Bool.{Bool, true}
-use Prim.Native.Nat.{ℕ, _+_}
+use mathlib.Core.Path.{_≡_, sym, ap, ap₂, _∙_}
+use mathlib.Core.Bool.{Bool, true, false}
+use Prim.Native.Nat.{ℕ, _+_, _-_, _*_}
 use native.Mathlib.Omega.{arith}
 use borrow.Author.Needs.{needs}
 use denote.Ref.{now}
@@ -19,7 +19,7 @@ use Rattle.blocks.specs.Answer.{finished, refused}
 use Rattle.pointed.specs.Call.{compare-fault}
 use Rattle.pointed.proofs.Refusing.{register-outside, register-inside}
 use Rattle.blocks.proofs.Doing.{does, refuses, is-off, is-on}
-use Rattle.pointed.proofs.Comparing.{no-position, start, compare-off, compare-found, compare-none, found-inside}
+use Rattle.pointed.proofs.Comparing.{no-position, start, begins, compare-off, compare-found, compare-none, found-inside}
 use Rattle.pointed.proofs.cmpr.compare.Statement.{statement}
 use Rattle.pointed.proofs.cmpr.compare.Tie as tie
 
@@ -41,13 +41,18 @@ began c =
     let x = c .before .before .before .before .before .before .before .args in
     c .set-to .ensures ∙ ap (λ (at : ℕ). set-to 0 (x .on .middle) (into (x .n) at)) (c .before .pointer-in .ensures)
 
--- the search was asked for the first difference above the pointer, reset and taken in range
-sought : (c : tie.After-first-difference) → let x = c .before .before .before .before .before .before .before .before .before .before .before .before .before .args in
-    c .first-difference .result ≡ first-difference (now (x .table)) (x .s) (x .p + 1) (x .n) (in-range (start (pointer-at (x .node) (x .p) (now (x .table))) (now (x .table)) (x .s) (x .p) (x .n) (x .on)) .at)
+-- and taken in range
+ranged : (c : tie.After-in-range) → let x = c .before .before .before .before .before .before .before .before .before .before .args in
+    c .in-range .result ≡ in-range (start (pointer-at (x .node) (x .p) (now (x .table))) (now (x .table)) (x .s) (x .p) (x .n) (x .on))
+ranged c = c .in-range .ensures ∙ ap in-range (began (c .before .before .before))
+
+-- the search was asked for the first difference above it
+sought : (c : tie.After-first-difference) → let x = c .before .before .before .before .before .before .before .before .before .before .before .before .args in
+    c .first-difference .result ≡ first-difference (now (x .table)) (x .s) (x .p + 1) (x .n) (begins (pointer-at (x .node) (x .p) (now (x .table))) (now (x .table)) (x .s) (x .p) (x .n) (x .on))
 sought c =
-    let x = c .before .before .before .before .before .before .before .before .before .before .before .before .before .args in
+    let x = c .before .before .before .before .before .before .before .before .before .before .before .before .args in
     told (now (x .table)) (x .s) (x .p + 1) (x .n) (c .before .before .in-range .result .at) (c .first-difference .result) (c .first-difference .ensures)
-    ∙ ap (λ (q : Pointer). first-difference (now (x .table)) (x .s) (x .p + 1) (x .n) (q .at)) (c .before .before .in-range .ensures ∙ ap in-range (began (c .before .before .before .before .before .before)))
+    ∙ ap (λ (q : Pointer). first-difference (now (x .table)) (x .s) (x .p + 1) (x .n) (q .at)) (ranged (c .before .before))
 
 refused-requires : tie.Need-refused-requires
 refused-requires c κs = search needs
@@ -85,11 +90,11 @@ pointer-in-requires c κs = search needs
 set-to-requires : tie.Need-set-to-requires
 set-to-requires c κs = search needs
 
+put-pointer-requires : tie.Need-put-pointer-requires
+put-pointer-requires c κs = search needs
+
 finished-requires : tie.Need-finished-requires
 finished-requires c κs = search needs
-
-put-pointer-requires : tie.Need-put-pointer-requires
-put-pointer-requires c κs asked = let h = lies (c .before .before .before .before .before .before .before) in omega (arith, h .some-words, h .first, h .second)
 
 same-length : tie.Need-same-length
 same-length c = search needs
@@ -98,9 +103,9 @@ returns-3 : tie.Need-returns-3
 returns-3 c =
     let x = c .before .before .before .before .before .before .before .before .before .before .before .before .before .before .args in
     does (none (c .before .before .before .before .before .before .before .before .before .before))
-    (compare-off (pointer-at (x .node) (x .p) (now (x .table))) (now (x .table)) (x .s) (x .p) (x .n) (x .on) (is-off (x .on .top) (c .before .before .before .before .if3 .taken))
-    (ap (λ (q : Pointer). q .at) (began (c .before .before .before .before .before .before .before))) (c .before .before .put-pointer .ensures))
-    (c .before .before .before .before .before .before .finished .ensures)
+    (compare-off (pointer-at (x .node) (x .p) (now (x .table))) (now (x .table)) (x .s) (x .p) (x .n) (x .on) (is-off (x .on .top) (c .before .before .before .before .before .if3 .taken))
+    (ap (λ (q : Pointer). q .at) (began (c .before .before .before .before .before .before .before))) (c .before .before .before .put-pointer .ensures))
+    (c .finished .ensures)
 
 in-range-requires : tie.Need-in-range-requires
 in-range-requires c κs = search needs
@@ -117,36 +122,44 @@ mul-table c = search needs
 slice-write-table : tie.Need-slice-write-table
 slice-write-table c = search needs
 
+pairs-requires : tie.Need-pairs-requires
+pairs-requires c κs = search needs
+
+finished-requires-2 : tie.Need-finished-requires-2
+finished-requires-2 c κs = search needs
+
 same-length-2 : tie.Need-same-length-2
 same-length-2 c = search needs
 
 returns-4 : tie.Need-returns-4
 returns-4 c =
-    let x = c .before .before .before .before .before .before .before .before .before .before .before .before .before .before .args in
-    does (none (c .before .before .before .before .before .before .before .before .before .before))
-    (compare-none (pointer-at (x .node) (x .p) (now (x .table))) (now (x .table)) (x .s) (x .p) (x .n) (x .on) (is-on (x .on .top) (c .before .before .before .before .if3 .left)) (lies (c .before .before .before .before .before .before .before .before .before .before))
-    (c .before .first-difference .result) (sought (c .before)) (no-position (c .before .first-difference .result) (c .match .keys2)))
-    (c .before .before .before .before .before .before .finished .ensures)
+    let x = c .before .before .before .before .before .before .before .before .before .before .before .before .before .before .before .args in
+    does (none (c .before .before .before .before .before .before .before .before .before .before .before))
+    (compare-none (pointer-at (x .node) (x .p) (now (x .table))) (now (x .table)) (x .s) (x .p) (x .n) (x .on) (is-on (x .on .top) (c .before .before .before .before .before .before .if3 .left)) (lies (c .before .before .before .before .before .before .before .before .before .before .before))
+    (c .before .before .before .first-difference .result) (sought (c .before .before .before)) (no-position (c .before .before .before .first-difference .result) (c .before .before .match .keys2)))
+    (c .finished2 .ensures
+    ∙ ap (λ (k : ℕ). finished (shows (x .on .top) false false k)) (c .before .pairs .ensures ∙ ap (λ (q : Pointer). 16 * x .n - q .at) (ranged (c .before .before .before .before .before))))
 
 bit-requires : tie.Need-bit-requires
 bit-requires c κs =
-    let x = c .before .before .before .before .before .before .before .before .before .before .before .before .before .before .before .before .before .args in
-    let h = lies (c .before .before .before .before .before .before .before .before .before .before .before .before .before) in (
+    let x = c .before .before .before .before .before .before .before .before .before .before .before .before .before .before .before .before .args in
+    let h = lies (c .before .before .before .before .before .before .before .before .before .before .before .before) in (
       record { some-words = h .some-words; few = omega (arith, h .few); first = omega (arith, h .first, h .second); second = omega (arith, h .first, h .second) },
       found-inside (pointer-at (x .node) (x .p) (now (x .table))) (now (x .table)) (x .s) (x .p) (x .n) (x .on) (c .before .before .before .before .before .before .in-range .result .at)
           (c .before .before .before .before .first-difference .result) (c .before .before .before .before .first-difference .ensures) (c .before .before .found .given .1),
     )
 
 mul-table-2 : tie.Need-mul-table-2
-mul-table-2 c =
-    let owned = c .before .before .before .before .before .before .before .before .before .before .before .before .before .before .before .before .before .before .good in
-    let l = c .before .before .before .before .before .before .before .before .before .before .before .before .before .before .before .before .if1 .left in search needs
+mul-table-2 c = search needs
 
 slice-write-table-2 : tie.Need-slice-write-table-2
 slice-write-table-2 c = search needs
 
-finished-requires-2 : tie.Need-finished-requires-2
-finished-requires-2 c κs = search needs
+pairs-requires-2 : tie.Need-pairs-requires-2
+pairs-requires-2 c κs = search needs
+
+finished-requires-3 : tie.Need-finished-requires-3
+finished-requires-3 c κs = search needs
 
 same-length-3 : tie.Need-same-length-3
 same-length-3 c = search needs
@@ -155,9 +168,11 @@ returns-5 : tie.Need-returns-5
 returns-5 c =
     let x = c .before .before .before .before .before .before .before .before .before .before .before .before .before .before .before .before .before .before .before .args in
     does (none (c .before .before .before .before .before .before .before .before .before .before .before .before .before .before .before))
-    (compare-found (pointer-at (x .node) (x .p) (now (x .table))) (now (x .table)) (x .s) (x .p) (x .n) (x .on) (is-on (x .on .top) (c .before .before .before .before .before .before .before .before .before .if3 .left)) (lies (c .before .before .before .before .before .before .before .before .before .before .before .before .before .before .before))
-    (sym (sought (c .before .before .before .before .before .before)) ∙ c .before .before .before .before .found .given .1))
-    (c .finished2 .ensures ∙ ap (λ (a : Bool). finished (shows (x .on .top) true a)) (c .before .bit .ensures))
+    (compare-found (pointer-at (x .node) (x .p) (now (x .table))) (now (x .table)) (x .s) (x .p) (x .n) (x .on) (is-on (x .on .top) (c .before .before .before .before .before .before .before .before .before .before .if3 .left)) (lies (c .before .before .before .before .before .before .before .before .before .before .before .before .before .before .before))
+    (sym (sought (c .before .before .before .before .before .before .before)) ∙ c .before .before .before .before .before .found .given .1))
+    (c .finished3 .ensures
+    ∙ ap₂ (λ (a : Bool) (k : ℕ). finished (shows (x .on .top) true a k)) (c .before .before .bit .ensures)
+    (c .before .pairs2 .ensures ∙ ap (λ (q : Pointer). c .before .before .before .before .before .found .given .0 .0 - q .at) (ranged (c .before .before .before .before .before .before .before .before .before))))
 
 pub compare-spec : {M : Type 1} → statement M
 compare-spec =
@@ -173,8 +188,8 @@ compare-spec =
     cast-size
     pointer-in-requires
     set-to-requires
-    finished-requires
     put-pointer-requires
+    finished-requires
     same-length
     returns-3
     in-range-requires
@@ -182,11 +197,14 @@ compare-spec =
     enum-known-found
     mul-table
     slice-write-table
+    pairs-requires
+    finished-requires-2
     same-length-2
     returns-4
     bit-requires
     mul-table-2
     slice-write-table-2
-    finished-requires-2
+    pairs-requires-2
+    finished-requires-3
     same-length-3
     returns-5)

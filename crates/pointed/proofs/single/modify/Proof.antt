@@ -107,7 +107,7 @@ returns-4 c =
     let x = c .before .before .before .before .before .before .before .before .before .before .before .before .before .before .before .before .before .before .before .before .before .args in
     let held = eqb (x .node .class) 4 in
     does (none (c .before .before .before .before .before .before .before .before .before .before .before .before .before .before .before .before .before .before))
-    (subst (λ (at : ℕ). Did (x .on) (modified-at held at (now (x .table)) (x .d) (x .n) (x .on)) (x .d) (x .n) (x .p) (now (x .table)) (shows (x .on .top) (c .before .before .before .before .before .before .before .before .before .before .before .before .before .before .both .result) false) (c .before .before .before .put-pointer .last .0))
+    (subst (λ (at : ℕ). Did (x .on) (modified-at held at (now (x .table)) (x .d) (x .n) (x .on)) (x .d) (x .n) (x .p) (now (x .table)) (shows (x .on .top) (c .before .before .before .before .before .before .before .before .before .before .before .before .before .before .both .result) false 0) (c .before .before .before .put-pointer .last .0))
     (c .before .before .before .before .before .before .before .before .before .before .before .before .before .before .before .pointer-in .ensures)
     (modify-on held (c .before .before .before .before .before .before .before .before .before .before .before .before .before .before .before .pointer-in .result) (now (x .table)) (x .d) (x .p) (x .n) (x .on) (c .before .before .before .before .before .before .before .before .before .before .before .before .before .before .both .ensures) (is-on (x .on .top) (c .before .before .before .before .before .before .before .before .before .before .before .before .if2 .left)) (c .before .before .before .before .before .before .before .before .before .before .before .if3 .left)
     (c .before .before .before .before .before .before .both2 .ensures) (c .before .before .before .before .next .ensures) (c .before .before .before .before .before .before .before .before .before .put-at .ensures) (c .before .before .before .put-pointer .ensures)))

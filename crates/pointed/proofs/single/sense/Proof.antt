@@ -81,7 +81,7 @@ returns-2 c =
     let x = c .before .before .before .before .before .before .before .before .before .before .before .before .before .before .before .args in
     let held = eqb (x .node .class) 4 in
     does (none (c .before .before .before .before .before .before .before .before .before .before .before .before))
-    (subst (λ (at : ℕ). Did (x .on) (sensed-at held at (now (x .table)) (x .s) (x .n) (x .on)) (x .s) (x .n) (x .p) (now (x .table)) (shows (x .on .top) false false) (c .before .before .before .put-pointer .last .0))
+    (subst (λ (at : ℕ). Did (x .on) (sensed-at held at (now (x .table)) (x .s) (x .n) (x .on)) (x .s) (x .n) (x .p) (now (x .table)) (shows (x .on .top) false false 0) (c .before .before .before .put-pointer .last .0))
     (c .before .before .before .before .before .before .before .before .before .pointer-in .ensures)
     (sense-off held (c .before .before .before .before .before .before .before .before .before .pointer-in .result) (now (x .table)) (x .s) (x .p) (x .n) (x .on) (is-off (x .on .top) (c .before .before .before .before .before .if2 .taken))
     (ap (λ (q : Pointer). q .at) (began (c .before .before .before .before .before .before .before))) (c .before .before .before .before .before .before .before .before .both .ensures) (c .before .before .before .put-pointer .ensures)))
@@ -99,7 +99,7 @@ returns-3 c =
     let held = eqb (x .node .class) 4 in
     let h = lies (c .before .before .before .before .before .before .before .before .before .before) in
     does (none (c .before .before .before .before .before .before .before .before .before .before))
-    (subst (λ (at : ℕ). Did (x .on) (sensed-at held at (now (x .table)) (x .s) (x .n) (x .on)) (x .s) (x .n) (x .p) (now (x .table)) (shows (x .on .top) false true) (now (x .table)))
+    (subst (λ (at : ℕ). Did (x .on) (sensed-at held at (now (x .table)) (x .s) (x .n) (x .on)) (x .s) (x .n) (x .p) (now (x .table)) (shows (x .on .top) false true 0) (now (x .table)))
     (c .before .before .before .before .before .before .before .pointer-in .ensures)
     (sense-over held (c .before .before .before .before .before .before .before .pointer-in .result) (now (x .table)) (x .s) (x .p) (x .n) (x .on) (h .some-words) (h .few) (is-on (x .on .top) (c .before .before .before .if2 .left))
     (subst (λ (q : Pointer). 16 * x .n < q .at) (began (c .before .before .before .before .before)) (c .before .if3 .taken))))
@@ -134,7 +134,7 @@ returns-4 c =
     let held = eqb (x .node .class) 4 in
     let increase = c .before .before .before .before .before .before .before .both2 .result in
     does (none (c .before .before .before .before .before .before .before .before .before .before .before .before .before .before .before .before .before .before .before))
-    (subst (λ (at : ℕ). Did (x .on) (sensed-at held at (now (x .table)) (x .s) (x .n) (x .on)) (x .s) (x .n) (x .p) (now (x .table)) (shows (x .on .top) (c .before .before .before .before .before .before .before .before .bit .result) false) (c .before .before .before .put-pointer2 .last .0))
+    (subst (λ (at : ℕ). Did (x .on) (sensed-at held at (now (x .table)) (x .s) (x .n) (x .on)) (x .s) (x .n) (x .p) (now (x .table)) (shows (x .on .top) (c .before .before .before .before .before .before .before .before .bit .result) false 0) (c .before .before .before .put-pointer2 .last .0))
     (c .before .before .before .before .before .before .before .before .before .before .before .before .before .before .before .before .pointer-in .ensures)
     (sense-on held (c .before .before .before .before .before .before .before .before .before .before .before .before .before .before .before .before .pointer-in .result) (now (x .table)) (x .s) (x .p) (x .n) (x .on) (is-on (x .on .top) (c .before .before .before .before .before .before .before .before .before .before .before .before .if2 .left))
     (subst (λ (q : Pointer). q .at ≤ 16 * x .n) (began (c .before .before .before .before .before .before .before .before .before .before .before .before .before .before)) (c .before .before .before .before .before .before .before .before .before .before .if3 .left))

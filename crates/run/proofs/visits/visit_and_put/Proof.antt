@@ -1,10 +1,15 @@
--- `run::visits::visit_and_put` meets its contract: the visit, then its line, with the pointer where the kind has one. Assumes nothing.
-use mathlib.Core.Path.{refl, ap, _∙_}
+-- `run::visits::visit_and_put` meets its contract: the visit, then its line, by the kind. Assumes nothing.
+use mathlib.Core.Path.{ap, _∙_}
+use mathlib.Core.Logic.{inl, inr, ⊎-elim}
+use Prim.Native.Nat.{_*_}
 use native.Mathlib.Omega.{arith}
+use borrow.Author.Tests.{ltb-true, ltb-false}
+use denote.Ref.{now}
+use lib.ListN.{getD}
 use Rattle.network.specs.Network.{block-of}
-use Rattle.text.specs.Text.{pointer-field}
+use Rattle.text.specs.Text.{decimal}
 use Rattle.run.proofs.Following.{kind-of-step, kind-word, is-showing, shown-is}
-use Rattle.run.proofs.Turns.{none-before, none-after, is-lined}
+use Rattle.run.proofs.Turns.{shows-pointer, shows-none, counts-none, is-lined}
 use borrow.Author.Needs.{needs}
 use Rattle.run.proofs.visits.visit_and_put.Statement.{statement}
 use Rattle.run.proofs.visits.visit_and_put.Tie as tie
@@ -24,14 +29,22 @@ shared-slice-read-kind c = search needs
 cast-kind : tie.Need-cast-kind
 cast-kind c = omega (arith, kind-word (c .before .before .before .before .before .before .before .before .before .pre .turned .stepped))
 
-mul-put-line : tie.Need-mul-put-line
-mul-put-line c = search needs
+mul-pointer : tie.Need-mul-pointer
+mul-pointer c = search needs
 
-shared-slice-read-put-line : tie.Need-shared-slice-read-put-line
-shared-slice-read-put-line c = search needs
+pointer-requires : tie.Need-pointer-requires
+pointer-requires c κs =
+    let s = c .before .before .before .before .before .before .before .before .before .before .before .pre .turned .stepped in
+    is-showing s (omega (arith, kind-of-step s, c .before .if1 .taken)) (omega (arith, kind-of-step s, c .before .if1 .taken)) _ (c .before .before .before .before .state .given)
 
-put-line-requires : tie.Need-put-line-requires
-put-line-requires c κs = search needs
+mul-put-compare-line : tie.Need-mul-put-compare-line
+mul-put-compare-line c = search needs
+
+shared-slice-read-put-compare-line : tie.Need-shared-slice-read-put-compare-line
+shared-slice-read-put-compare-line c = search needs
+
+put-compare-line-requires : tie.Need-put-compare-line-requires
+put-compare-line-requires c κs = search needs
 
 same-length : tie.Need-same-length
 same-length c = search needs
@@ -42,17 +55,29 @@ same-length-2 c = search needs
 returns : tie.Need-returns
 returns c =
     λ net scan t.
-    is-lined t (c .before .before .before .before .before .before .before .before .before .visit .ensures net (t .stepped)) refl 0
-    (none-before (block-of net _ .kind) 0 _ (omega (arith, kind-of-step (t .stepped), c .before .before .before .before .before .if1 .taken))) (c .before .before .put-line .ensures)
+    let did = c .before .before .before .before .before .before .before .before .before .before .before .visit .ensures net (t .stepped) in
+    is-lined t (did .outputs) (did .leaves)
+    (ap decimal (c .before .before .before .before .before .pointer .ensures ∙ shown-is (t .stepped) (omega (arith, kind-of-step (t .stepped), c .before .before .before .before .before .before .before .if1 .taken)) (omega (arith, kind-of-step (t .stepped), c .before .before .before .before .before .before .before .if1 .taken)) (did .leaves))
+    ∙ shows-pointer (block-of net _ .kind) _ (omega (arith, kind-of-step (t .stepped), c .before .before .before .before .before .before .before .if1 .taken)) (omega (arith, kind-of-step (t .stepped), c .before .before .before .before .before .before .before .if1 .taken)))
+    (c .before .before .put-compare-line .ensures)
 
-mul-put-line-2 : tie.Need-mul-put-line-2
-mul-put-line-2 c = search needs
+mul-pointer-2 : tie.Need-mul-pointer-2
+mul-pointer-2 c = search needs
 
-shared-slice-read-put-line-2 : tie.Need-shared-slice-read-put-line-2
-shared-slice-read-put-line-2 c = search needs
+pointer-requires-2 : tie.Need-pointer-requires-2
+pointer-requires-2 c κs =
+    let x = c .before .before .before .before .before .before .before .before .before .before .before .before .before .args in
+    let s = c .before .before .before .before .before .before .before .before .before .before .before .before .before .pre .turned .stepped in
+    is-showing s (omega (arith, kind-of-step s, c .before .before .if2 .taken)) (omega (arith, kind-of-step s, ltb-true (getD (now (x .plan)) (24 * x .k) 0) 8 (c .before .if3 .taken))) _ (c .before .before .before .before .before .before .state .given)
 
-put-line-requires-2 : tie.Need-put-line-requires-2
-put-line-requires-2 c κs = search needs
+mul-put-pointed-line : tie.Need-mul-put-pointed-line
+mul-put-pointed-line c = search needs
+
+shared-slice-read-put-pointed-line : tie.Need-shared-slice-read-put-pointed-line
+shared-slice-read-put-pointed-line c = search needs
+
+put-pointed-line-requires : tie.Need-put-pointed-line-requires
+put-pointed-line-requires c κs = search needs
 
 same-length-3 : tie.Need-same-length-3
 same-length-3 c = search needs
@@ -62,26 +87,22 @@ same-length-4 c = search needs
 
 returns-2 : tie.Need-returns-2
 returns-2 c =
+    let x = c .before .before .before .before .before .before .before .before .before .before .before .before .before .before .before .before .before .before .before .args in
     λ net scan t.
-    is-lined t (c .before .before .before .before .before .before .before .before .before .before .visit .ensures net (t .stepped)) refl 0
-    (none-after (block-of net _ .kind) 0 _ (omega (arith, kind-of-step (t .stepped), c .before .before .before .before .before .if2 .taken))) (c .before .before .put-line2 .ensures)
+    let did = c .before .before .before .before .before .before .before .before .before .before .before .before .before .visit .ensures net (t .stepped) in
+    is-lined t (counts-none net _ _ (did .outputs) (λ e. c .before .before .before .before .before .before .before .before .before .if1 .left (kind-of-step (t .stepped) ∙ e))) (did .leaves)
+    (ap decimal (c .before .before .before .before .before .pointer2 .ensures ∙ shown-is (t .stepped) (omega (arith, kind-of-step (t .stepped), c .before .before .before .before .before .before .before .before .if2 .taken)) (omega (arith, kind-of-step (t .stepped), ltb-true (getD (now (x .plan)) (24 * x .k) 0) 8 (c .before .before .before .before .before .before .before .if3 .taken))) (did .leaves))
+    ∙ shows-pointer (block-of net _ .kind) _ (omega (arith, kind-of-step (t .stepped), c .before .before .before .before .before .before .before .before .if2 .taken)) (omega (arith, kind-of-step (t .stepped), ltb-true (getD (now (x .plan)) (24 * x .k) 0) 8 (c .before .before .before .before .before .before .before .if3 .taken))))
+    (c .before .before .put-pointed-line .ensures)
 
-mul-pointer : tie.Need-mul-pointer
-mul-pointer c = search needs
+mul-put-plain-line : tie.Need-mul-put-plain-line
+mul-put-plain-line c = search needs
 
-pointer-requires : tie.Need-pointer-requires
-pointer-requires c κs =
-    let s = c .before .before .before .before .before .before .before .before .before .before .before .before .pre .turned .stepped in
-    is-showing s (omega (arith, kind-of-step s, c .before .before .if1 .left)) (omega (arith, kind-of-step s, c .before .if2 .left)) _ (c .before .before .before .before .before .state .given)
+shared-slice-read-put-plain-line : tie.Need-shared-slice-read-put-plain-line
+shared-slice-read-put-plain-line c = search needs
 
-mul-put-line-3 : tie.Need-mul-put-line-3
-mul-put-line-3 c = search needs
-
-shared-slice-read-put-line-3 : tie.Need-shared-slice-read-put-line-3
-shared-slice-read-put-line-3 c = search needs
-
-put-line-requires-3 : tie.Need-put-line-requires-3
-put-line-requires-3 c κs = search needs
+put-plain-line-requires : tie.Need-put-plain-line-requires
+put-plain-line-requires c κs = search needs
 
 same-length-5 : tie.Need-same-length-5
 same-length-5 c = search needs
@@ -91,13 +112,16 @@ same-length-6 c = search needs
 
 returns-3 : tie.Need-returns-3
 returns-3 c =
+    let x = c .before .before .before .before .before .before .before .before .before .before .before .before .before .before .before .before .args in
     λ net scan t.
-    let did = c .before .before .before .before .before .before .before .before .before .before .before .before .visit .ensures net (t .stepped) in
-    is-lined t did refl _
-    (ap (pointer-field (block-of net _ .kind))
-    (c .before .before .before .before .before .pointer .ensures
-    ∙ shown-is (t .stepped) (omega (arith, kind-of-step (t .stepped), c .before .before .before .before .before .before .before .before .if1 .left)) (omega (arith, kind-of-step (t .stepped), c .before .before .before .before .before .before .before .if2 .left)) (did .leaves)))
-    (c .before .before .put-line3 .ensures)
+    let did = c .before .before .before .before .before .before .before .before .before .before .visit .ensures net (t .stepped) in
+    let other = c .before .before .before .before .before .before .if1 .left in
+    is-lined t (counts-none net _ _ (did .outputs) (λ e. other (kind-of-step (t .stepped) ∙ e))) (did .leaves)
+    (shows-none (block-of net _ .kind) _ (⊎-elim
+    (λ z. inr (omega (arith, kind-of-step (t .stepped), ltb-false (getD (now (x .plan)) (24 * x .k) 0) 8 (z .1 .left))))
+    (λ z. inl (omega (arith, kind-of-step (t .stepped), z .left, other)))
+    (c .before .before .before .before .before .if2 .came)))
+    (c .before .before .put-plain-line .ensures)
 
 pub visit-and-put-spec : {M : Type 1} → statement M
 visit-and-put-spec =
@@ -108,23 +132,25 @@ visit-and-put-spec =
     mul-kind-2
     shared-slice-read-kind
     cast-kind
-    mul-put-line
-    shared-slice-read-put-line
-    put-line-requires
+    mul-pointer
+    pointer-requires
+    mul-put-compare-line
+    shared-slice-read-put-compare-line
+    put-compare-line-requires
     same-length
     same-length-2
     returns
-    mul-put-line-2
-    shared-slice-read-put-line-2
-    put-line-requires-2
+    mul-pointer-2
+    pointer-requires-2
+    mul-put-pointed-line
+    shared-slice-read-put-pointed-line
+    put-pointed-line-requires
     same-length-3
     same-length-4
     returns-2
-    mul-pointer
-    pointer-requires
-    mul-put-line-3
-    shared-slice-read-put-line-3
-    put-line-requires-3
+    mul-put-plain-line
+    shared-slice-read-put-plain-line
+    put-plain-line-requires
     same-length-5
     same-length-6
     returns-3)

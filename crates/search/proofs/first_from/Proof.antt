@@ -1,27 +1,27 @@
--- `search::passed_from` meets its contract. Both loops keep one thing: the first position that differs from here on
+-- `search::first_from` meets its contract. Both loops keep one thing: the first position that differs from here on
 -- is the first that differs from the start on. Words whose two sides are equal are passed whole; within any other word one
 -- position is passed at a time, until the one that differs. Assumes nothing.
-use mathlib.Core.Path.{_≡_, refl, sym, ap, ap₂, _∙_}
-use mathlib.Core.Bool.{Bool, true, false, cond, xor}
+use mathlib.Core.Path.{_≡_, refl, sym, ap, ap₂, _∙_, subst}
+use mathlib.Core.Bool.{Bool, true, false, xor}
 use mathlib.Core.List.{List}
 use mathlib.Core.Logic.{⊎-elim}
-use mathlib.Core.Option.{Option, none, some}
+use mathlib.Core.Option.{Option, none}
 use Prim.Native.Nat.{ℕ, suc, _+_, _-_, _*_, _/_, _%_, _≤_, _<_}
 use native.Mathlib.Numerals.{add-one}
 use native.Mathlib.Omega.{arith}
 use borrow.Author.Needs.{needs}
-use borrow.Author.Tests.{lt-ltb, le-ltb}
 use lib.ListN.{length, getD, take, drop}
 use Rattle.bits.specs.Bit.{of, word-with, longest-whole}
 use Rattle.bits.proofs.Laws.{of-word, zero-of}
 use Rattle.bits.proofs.Matrix.{bit-of}
 use Rattle.runs.specs.Run.{run, Accepted}
+use Rattle.search.specs.declared.Difference.the-variants.{At, Nothing}
 use Rattle.search.specs.Search.{differing, first-differing}
-use Rattle.search.specs.Inner.{Passed, Paired, Equal}
+use Rattle.search.specs.Inner.{reported, Paired, Equal}
 use Rattle.matrix.proofs.Runs.{run-length}
 use Rattle.search.proofs.Searching.{stop, past, ended}
-use Rattle.search.proofs.passed_from.Statement.{statement}
-use Rattle.search.proofs.passed_from.Tie as tie
+use Rattle.search.proofs.first_from.Statement.{statement}
+use Rattle.search.proofs.first_from.Tie as tie
 
 -- a bit does not differ from itself
 alike : (b : Bool) → xor b b ≡ false
@@ -66,13 +66,11 @@ record Outside (t : List ℕ) (a b n : ℕ) (x y : List ℕ) (above passed : ℕ
   second : y ≡ run t b n
   same : first-differing x y n passed ≡ first-differing x y n above
 
--- and what the inner one keeps
-record Inside (t : List ℕ) (a b n : ℕ) (x y : List ℕ) (above k apart next passed : ℕ) : Type 0 where
-  outside : Outside t a b n x y above passed
-  low : k * 16 ≤ passed
-  high : passed ≤ next
+-- and what the inner one keeps, at the position after the first j of word k
+record Inside (t : List ℕ) (a b n : ℕ) (x y : List ℕ) (above k apart j : ℕ) : Type 0 where
+  outside : Outside t a b n x y above (16 * k + j)
+  high : j ≤ 16
   inner : k < n
-  top : next ≡ k * 16 + 16
   words : Apart x y k apart
 
 -- a part of the table is a run; nothing is passed yet
@@ -119,53 +117,61 @@ module _ {t : List ℕ} {a b n : ℕ} {x y : List ℕ} {above : ℕ} where
   pass-equal : {i k : ℕ} → Outside t a b n x y above (16 * i) → (k ≤ n) × Equal x y i k → Outside t a b n x y above (16 * k)
   pass-equal {i} {k} o (l, e) = pass o (16 * k) (omega (arith, e .up)) (omega (arith, l)) (equal-nowhere x y i k e)
 
-  -- no position is left
-  left-none : {passed : ℕ} → Outside t a b n x y above passed → 16 * n ≤ passed → Passed t a b n above passed
-  left-none {passed} o l =
-      answer o (ended (differing x y) (16 * n) passed l)
-      ∙ ap (λ (z : Bool). cond z (some (passed + 1)) none) (sym (le-ltb passed (16 * n) l))
+  -- a word is looked into
+  look-into : {passed apart : ℕ} → Outside t a b n x y above passed → passed < 16 * n → Apart x y (passed / 16) apart →
+      Inside t a b n x y above (passed / 16) apart (passed % 16)
+  look-into {passed} {apart} o l e =
+      let whole : 16 * (passed / 16) + passed % 16 ≡ passed = omega arith in
+      record {
+        outside = subst (Outside t a b n x y above) (sym whole) o;
+        high = omega arith;
+        inner = omega arith;
+        words = e;
+      }
 
-  module _ {k apart next passed : ℕ} (o : Inside t a b n x y above k apart next passed) where
+  -- no position is left
+  left-none : {passed : ℕ} → Outside t a b n x y above passed → 16 * n ≤ passed → reported none ≡ reported (first-differing (run t a n) (run t b n) n above)
+  left-none {passed} o l = ap reported (sym (answer o (ended (differing x y) (16 * n) passed l)))
+
+  module _ {k apart j : ℕ} (o : Inside t a b n x y above k apart j) where
     -- the bit that is looked at
-    looked : passed < next → of apart (passed % 16 + 1) ≡ differing x y (suc passed)
-    looked l = apart-bit x y k apart passed (o .low) (omega (arith, o .top)) (o .words)
+    looked : j < 16 → of apart (j + 1) ≡ differing x y (suc (16 * k + j))
+    looked l =
+        let place : j ≡ (16 * k + j) % 16 = omega arith in
+        ap (λ (i : ℕ). of apart (i + 1)) place ∙ apart-bit x y k apart (16 * k + j) (omega arith) (omega arith) (o .words)
 
     -- a position at which they do not differ is passed
-    pass-one : passed < next → of apart (passed % 16 + 1) ≡ false → Inside t a b n x y above k apart next (passed + 1)
+    pass-one : j < 16 → of apart (j + 1) ≡ false → Inside t a b n x y above k apart (j + 1)
     pass-one l off = record {
-      outside = pass (o .outside) (passed + 1) (omega arith) (omega (arith, o .top, o .inner))
-          (λ q u v. let here : passed ≡ q = omega arith in ap (λ (z : ℕ). differing x y (suc z)) (sym here) ∙ sym (looked l) ∙ off);
-      low = omega (arith, o .low);
+      outside = pass (o .outside) (16 * k + (j + 1)) (omega arith) (omega (arith, o .inner))
+          (λ q u v. let here : 16 * k + j ≡ q = omega arith in ap (λ (z : ℕ). differing x y (suc z)) (sym here) ∙ sym (looked l) ∙ off);
       high = omega arith;
       inner = o .inner;
-      top = o .top;
       words = o .words;
     }
 
     -- the word is passed
-    pass-word : next ≤ passed → Outside t a b n x y above (16 * (k + 1))
-    pass-word l =
-        pass (o .outside) (16 * (k + 1)) (omega (arith, o .top, o .high)) (omega (arith, o .inner)) (λ q u v. absurd (omega (arith, o .top)))
+    pass-word : 16 ≤ j → Outside t a b n x y above (16 * (k + 1))
+    pass-word l = pass (o .outside) (16 * (k + 1)) (omega (arith, o .high)) (omega (arith, o .inner)) (λ q u v. absurd (omega arith))
 
     -- a position at which they differ is the first
-    found : passed < next → of apart (passed % 16 + 1) ≡ true → Passed t a b n above passed
+    found : j < 16 → of apart (j + 1) ≡ true → At (16 * k + j + 1) ≡ reported (first-differing (run t a n) (run t b n) n above)
     found l on =
-        let inside : passed < 16 * n = omega (arith, o .top, o .inner) in
-        answer (o .outside) (stop (differing x y) (16 * n) passed inside (sym (looked l) ∙ on))
-        ∙ ap some (sym (add-one passed))
-        ∙ ap (λ (z : Bool). cond z (some (passed + 1)) none) (sym (lt-ltb passed (16 * n) inside))
+        let here : 16 * k + j + 1 ≡ suc (16 * k + j) = omega arith in
+        ap At here
+        ∙ ap reported (sym (answer (o .outside) (stop (differing x y) (16 * n) (16 * k + j) (omega (arith, o .inner)) (sym (looked l) ∙ on))))
 
 abbrev Inv-loop : tie.InvT-loop
-Inv-loop table a b n above x y end passed₀ k apart next passed = Inside table a b n x y above k apart next passed
+Inv-loop table a b n above x y end passed found₀ k apart j₀ found j = (found ≡ Nothing) × Inside table a b n x y above k apart j
 
 abbrev μ-loop : tie.MeasureT-loop
-μ-loop table a b n above x y end passed₀ k apart next passed = next - passed
+μ-loop table a b n above x y end passed found₀ k apart j₀ found j = 16 - j
 
 abbrev Inv-words : tie.InvT-words
-Inv-words table a b n above x y end passed₀ passed = Outside table a b n x y above passed
+Inv-words table a b n above x y end passed₀ found₀ passed found = (found ≡ Nothing) × Outside table a b n x y above passed
 
 abbrev μ-words : tie.MeasureT-words
-μ-words table a b n above x y end passed₀ passed = end - passed
+μ-words table a b n above x y end passed₀ found₀ passed found = end - passed
 
 add-x : tie.Need-add-x Inv-loop μ-loop Inv-words μ-words
 add-x c = omega (arith, c .before .pre)
@@ -201,87 +207,88 @@ mul-end : tie.Need-mul-end Inv-loop μ-loop Inv-words μ-words
 mul-end c = omega (arith, c .before .before .before .pre)
 
 words-holds : tie.Need-words-holds Inv-loop μ-loop Inv-words μ-words
-words-holds c = begun _ _ _ _ _ (c .before .before .before .pre)
+words-holds c = (refl, begun _ _ _ _ _ (c .before .before .before .pre))
 
 mul-xor-words : tie.Need-mul-xor-words Inv-loop μ-loop Inv-words μ-words
-mul-xor-words c = omega (arith, c .before .words .inv .runs)
+mul-xor-words c = omega (arith, c .before .words .inv .1 .runs)
 
 shared-slice-read-xor-words : tie.Need-shared-slice-read-xor-words Inv-loop μ-loop Inv-words μ-words
-shared-slice-read-xor-words c = omega (arith, c .before .before .words .inv .runs)
+shared-slice-read-xor-words c = omega (arith, c .before .before .words .inv .1 .runs)
 
 mul-xor-words-2 : tie.Need-mul-xor-words-2 Inv-loop μ-loop Inv-words μ-words
-mul-xor-words-2 c = omega (arith, c .before .before .words .inv .runs)
+mul-xor-words-2 c = omega (arith, c .before .before .words .inv .1 .runs)
 
 shared-slice-read-xor-words-2 : tie.Need-shared-slice-read-xor-words-2 Inv-loop μ-loop Inv-words μ-words
-shared-slice-read-xor-words-2 c = omega (arith, c .before .before .before .words .inv .runs)
+shared-slice-read-xor-words-2 c = omega (arith, c .before .before .before .words .inv .1 .runs)
 
 xor-words-requires : tie.Need-xor-words-requires Inv-loop μ-loop Inv-words μ-words
 xor-words-requires c κs = search needs
 
-mul-next : tie.Need-mul-next Inv-loop μ-loop Inv-words μ-words
-mul-next c = omega (arith, c .before .before .before .before .words .inv .runs)
-
-add-next : tie.Need-add-next Inv-loop μ-loop Inv-words μ-words
-add-next c = omega (arith, c .before .before .before .before .words .inv .runs)
+cast-j : tie.Need-cast-j Inv-loop μ-loop Inv-words μ-words
+cast-j c = omega arith
 
 loop-holds : tie.Need-loop-holds Inv-loop μ-loop Inv-words μ-words
-loop-holds c = record {
-  outside = c .before .before .before .before .before .words .inv;
-  low = omega arith;
-  high = omega arith;
-  inner = omega (arith, c .before .before .before .before .words-test .taken);
-  top = omega arith;
-  words = c .before .xor-words .ensures;
-}
+loop-holds c = (c .before .before .before .before .before .words .inv .0, look-into (c .before .before .before .before .before .words .inv .1) (c .before .before .before .before .words-test .taken) (c .before .xor-words .ensures))
 
 add-bit-at : tie.Need-add-bit-at Inv-loop μ-loop Inv-words μ-words
 add-bit-at c = omega arith
 
-cast-bit-at : tie.Need-cast-bit-at Inv-loop μ-loop Inv-words μ-words
-cast-bit-at c = omega arith
-
 bit-at-requires : tie.Need-bit-at-requires Inv-loop μ-loop Inv-words μ-words
 bit-at-requires c κs = search needs
 
-add-passed : tie.Need-add-passed Inv-loop μ-loop Inv-words μ-words
-add-passed c = let o = c .before .before .before .loop .inv in omega (arith, o .top, o .inner, o .outside .runs)
+mul-t32 : tie.Need-mul-t32 Inv-loop μ-loop Inv-words μ-words
+mul-t32 c = let o = c .before .before .before .loop .inv .1 in omega (arith, o .inner, o .high, o .outside .runs)
+
+cast-t33 : tie.Need-cast-t33 Inv-loop μ-loop Inv-words μ-words
+cast-t33 c = let o = c .before .before .before .loop .inv .1 in omega (arith, o .inner, o .high, o .outside .runs)
+
+add-t34 : tie.Need-add-t34 Inv-loop μ-loop Inv-words μ-words
+add-t34 c = let o = c .before .before .before .loop .inv .1 in omega (arith, o .inner, o .high, o .outside .runs)
+
+add-t35 : tie.Need-add-t35 Inv-loop μ-loop Inv-words μ-words
+add-t35 c = let o = c .before .before .before .loop .inv .1 in omega (arith, o .inner, o .high, o .outside .runs)
+
+add-j : tie.Need-add-j Inv-loop μ-loop Inv-words μ-words
+add-j c = omega arith
 
 loop-less : tie.Need-loop-less Inv-loop μ-loop Inv-words μ-words
 loop-less c = omega arith
 
 loop-again : tie.Need-loop-again Inv-loop μ-loop Inv-words μ-words
-loop-again c = pass-one (c .before .before .before .loop .inv) (c .before .before .loop-test .taken) (sym (c .before .bit-at .ensures) ∙ c .if2 .left)
+loop-again c = (c .before .before .before .loop .inv .0, pass-one (c .before .before .before .loop .inv .1) (c .before .before .loop-test .taken) (sym (c .before .bit-at .ensures) ∙ c .if2 .left))
 
 add-equal-from : tie.Need-add-equal-from Inv-loop μ-loop Inv-words μ-words
-add-equal-from c = omega (arith, c .before .before .before .before .before .words .inv .runs, c .before .before .before .before .words-test .taken)
+add-equal-from c = omega (arith, c .before .before .before .before .before .words .inv .1 .runs, c .before .before .before .before .words-test .taken)
 
 equal-from-requires : tie.Need-equal-from-requires Inv-loop μ-loop Inv-words μ-words
-equal-from-requires c κs = (c .before .before .before .before .before .words .inv .runs, omega (arith, c .before .before .before .before .words-test .taken))
+equal-from-requires c κs = (c .before .before .before .before .before .words .inv .1 .runs, omega (arith, c .before .before .before .before .words-test .taken))
 
 mul-passed : tie.Need-mul-passed Inv-loop μ-loop Inv-words μ-words
-mul-passed c = omega (arith, c .before .before .before .before .before .before .words .inv .runs, c .equal-from .ensures .0)
+mul-passed c = omega (arith, c .before .before .before .before .before .before .words .inv .1 .runs, c .equal-from .ensures .0)
 
 words-less : tie.Need-words-less Inv-loop μ-loop Inv-words μ-words
 words-less c = omega (arith, c .before .before .before .before .before .words-test .taken, c .equal-from .ensures .1 .up)
 
 words-again : tie.Need-words-again Inv-loop μ-loop Inv-words μ-words
 words-again c =
-    let o = c .before .before .before .before .before .before .words .inv in
-    pass-equal
-    (⊎-elim
-    (λ z. pass-word (z .1 .inv) (z .2 .left))
-    (λ z. pass-alike o (c .before .before .before .before .before .words-test .taken) (sym (z .left) ∙ c .before .before .xor-words .ensures))
-    (c .before .if1 .came))
-    (c .equal-from .ensures)
+    let o = c .before .before .before .before .before .before .words .inv in (
+      ⊎-elim (λ z. z .3 ∙ z .1 .inv .0) (λ z. z .1 ∙ o .0) (c .before .if1 .came),
+      pass-equal
+          (⊎-elim
+          (λ z. pass-word (z .1 .inv .1) (z .2 .left))
+          (λ z. pass-alike (o .1) (c .before .before .before .before .before .words-test .taken) (sym (z .0 .left) ∙ c .before .before .xor-words .ensures))
+          (c .before .if1 .came))
+          (c .equal-from .ensures),
+    )
 
 returns : tie.Need-returns Inv-loop μ-loop Inv-words μ-words
-returns c = left-none (c .before .words .inv) (c .words-test .left)
+returns c = c .before .words .inv .0 ∙ left-none (c .before .words .inv .1) (c .words-test .left)
 
 returns-2 : tie.Need-returns-2 Inv-loop μ-loop Inv-words μ-words
-returns-2 c = found (c .before .before .before .loop .inv) (c .before .before .loop-test .taken) (sym (c .before .bit-at .ensures) ∙ c .if2 .taken)
+returns-2 c = found (c .before .before .before .loop .inv .1) (c .before .before .loop-test .taken) (sym (c .before .bit-at .ensures) ∙ c .if2 .taken)
 
-pub passed-from-spec : {M : Type 1} → statement M
-passed-from-spec =
+pub first-from-spec : {M : Type 1} → statement M
+first-from-spec =
     tie.close
     (tie.spec
     Inv-loop
@@ -305,13 +312,15 @@ passed-from-spec =
     mul-xor-words-2
     shared-slice-read-xor-words-2
     xor-words-requires
-    mul-next
-    add-next
+    cast-j
     loop-holds
     add-bit-at
-    cast-bit-at
     bit-at-requires
-    add-passed
+    mul-t32
+    cast-t33
+    add-t34
+    add-t35
+    add-j
     loop-less
     loop-again
     add-equal-from
