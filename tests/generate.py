@@ -168,7 +168,7 @@ def overlapping(plan):
     if not classes:
         return None
     class_ = dice.pick(classes)
-    n = dice.between(2, min(4, plan.sizes[class_] - 1))
+    n = dice.between(2, min(dice.pick((4, 4, 20)), plan.sizes[class_] - 1))
     distance = dice.between(1, min(n - 1, plan.sizes[class_] - n))
     low = dice.between(0, plan.sizes[class_] - n - distance)
     nodes = [node_at(plan, n, class_, low), node_at(plan, n, class_, low + distance)]

@@ -1,22 +1,21 @@
 -- The laws of what is put into a table: every bit afterwards is the one that was put there, or the one that was there before.
 -- Assumes nothing.
-use mathlib.Core.Path.{_≡_, refl, sym, ap, ap₂, _∙_, subst}
+use mathlib.Core.Path.{_≡_, refl, sym, ap, ap₂, _∙_}
 use mathlib.Core.Bool.{Bool, true, false, cond, _&&_}
-use mathlib.Core.List.{List, _++_, append-assoc}
+use mathlib.Core.List.{List}
 use mathlib.Core.Logic.{_⊎_, inl, inr, ⊎-elim}
 use mathlib.Core.Option.{Option, none, some}
 use Prim.Native.Nat.{ℕ, zero, suc, _+_, _-_, _*_, _/_, _%_, _^_, _≤_, _<_}
 use native.Mathlib.Omega.{arith}
 use borrow.Author.Tests.{ltb-true, ltb-false, leb-true, leb-false, eqb-true, eqb-false, ne-eqb}
 use lib.Dec.{eqb, leb, ltb}
-use lib.ListN.{length, getD, take, drop, length-append, length-drop, List·getD-append}
-use lib.Seq.{getD-append-add, getD-take, getD-drop, length-take-le}
+use lib.ListN.{length, getD}
 use Rattle.bits.specs.Bit.{odd, bit, matrix}
 use Rattle.bits.proofs.Matrix.{matrix-length, bit-matrix}
 use Rattle.bits.proofs.Tests.{eqb-iff}
 use Rattle.runs.specs.Run.{run, placed}
 use Rattle.matrix.specs.Single.{bit-put}
-use Rattle.matrix.proofs.Runs.{run-at}
+use Rattle.matrix.proofs.Runs.{run-at, word-inside, word-outside, placed-length}
 use Rattle.network.specs.Network.{Network}
 use Rattle.blocks.specs.Effect.{Change}
 use Rattle.blocks.specs.Effect.Change.{stays, becomes, puts}
@@ -42,47 +41,13 @@ run-bits t s n (suc q) l u =
 abbrev pub Off : ℕ → ℕ → ℕ → Type 0
 Off s words p = (p ≤ 16 * s) ⊎ (16 * (s + words) < p)
 
--- ---- the words of a table with a matrix in it
+-- ---- the bits of a table with a matrix in it
 module _ (t : List ℕ) (s : ℕ) (m : List ℕ) (h : s + length m ≤ length t) where
-  after : List ℕ
-  after = m ++ drop (s + length m) t
-
-  word-at : (k : ℕ) → getD (placed t s m) k 0 ≡ getD (take s t ++ after) k 0
-  unfolding after
-  word-at k = ap (λ (r : List ℕ). getD r k 0) (append-assoc (take s t) m (drop (s + length m) t))
-
-  below : (k : ℕ) → k < s → getD (placed t s m) k 0 ≡ getD t k 0
-  below k l =
-      let e : length (take s t) ≡ s = length-take-le s t (omega arith) in
-      word-at k ∙ List·getD-append (take s t) after 0 k (subst (λ (x : ℕ). k < x) (sym e) l) ∙ getD-take s t k 0 l
-
-  from : (k : ℕ) → getD (placed t s m) (s + k) 0 ≡ getD after k 0
-  from k =
-      let e : length (take s t) ≡ s = length-take-le s t (omega arith) in
-      word-at (s + k) ∙ ap (λ (x : ℕ). getD (take s t ++ after) (x + k) 0) (sym e) ∙ getD-append-add (take s t) after k 0
-
-  pub word-inside : (k : ℕ) → k < length m → getD (placed t s m) (s + k) 0 ≡ getD m k 0
-  unfolding after
-  word-inside k l = from k ∙ List·getD-append m (drop (s + length m) t) 0 k l
-
-  above : (k : ℕ) → getD (placed t s m) (s + (length m + k)) 0 ≡ getD t (s + length m + k) 0
-  unfolding after
-  above k = from (length m + k) ∙ getD-append-add m (drop (s + length m) t) k 0 ∙ getD-drop (s + length m) t k 0
-
-  -- the words outside it stay
-  word-outside : (k : ℕ) → (k < s) ⊎ (s + length m ≤ k) → getD (placed t s m) k 0 ≡ getD t k 0
-  word-outside k = ⊎-elim (below k)
-      (λ l.
-      let at : s + (length m + (k - (s + length m))) ≡ k = omega arith in
-      let there : s + length m + (k - (s + length m)) ≡ k = omega arith in
-      ap (λ (j : ℕ). getD (placed t s m) j 0) (sym at) ∙ above (k - (s + length m)) ∙ ap (λ (j : ℕ). getD t j 0) there)
-
-  -- ---- and its bits
   pub bit-outside : (p : ℕ) → Off s (length m) p → bit (placed t s m) p ≡ bit t p
   unfolding bit
   bit-outside zero o = refl
   bit-outside (suc i) o =
-      same-bit (placed t s m) t i i refl (word-outside (i / 16) (⊎-elim (λ l. inl (omega arith)) (λ l. inr (omega arith)) o))
+      same-bit (placed t s m) t i i refl (word-outside t s m h (i / 16) (⊎-elim (λ l. inl (omega arith)) (λ l. inr (omega arith)) o))
 
   bit-inside : (p : ℕ) → 16 * s < p → p ≤ 16 * (s + length m) → bit (placed t s m) p ≡ bit m (p - 16 * s)
   bit-inside zero l u = absurd (omega arith)
@@ -91,15 +56,8 @@ module _ (t : List ℕ) (s : ℕ) (m : List ℕ) (h : s + length m ≤ length t)
       let at : s + j / 16 ≡ i / 16 = omega arith in
       let next : suc j ≡ suc i - 16 * s = omega arith in
       same-bit (placed t s m) m i j (omega arith)
-      (ap (λ (k : ℕ). getD (placed t s m) k 0) (sym at) ∙ word-inside (j / 16) (omega arith))
+      (ap (λ (k : ℕ). getD (placed t s m) k 0) (sym at) ∙ word-inside t s m h (j / 16) (omega arith))
       ∙ ap (bit m) next
-
--- the table is as long as before
-placed-length : (t : List ℕ) (s : ℕ) (m : List ℕ) → s + length m ≤ length t → length (placed t s m) ≡ length t
-placed-length t s m h =
-    length-append (take s t ++ m) (drop (s + length m) t)
-    ∙ ap₂ _+_ (length-append (take s t) m ∙ ap (λ (k : ℕ). k + length m) (length-take-le s t (omega arith))) (length-drop (s + length m) t)
-    ∙ omega arith
 
 -- ---- a matrix in its place
 matrix-bits : (t : List ℕ) (s : ℕ) (m : List ℕ) → s + length m ≤ length t → (p : ℕ) → bit (placed t s m) p ≡ or-stays (matrix-bit s (some m) p) (bit t p)

@@ -3,5 +3,6 @@ pub mod Answers
 pub mod Determined
 pub mod Kept
 pub mod Moving
+pub mod Rewriting
 pub mod Runs
 pub mod Singles

@@ -1,10 +1,11 @@
 // AND, OR, XOR and COMP over the matrices of a table.
-use crate::copy::copied;
+use crate::merge::Merge;
+use crate::merge::merge_down;
+use crate::merge::merge_up;
 use bits::LONGEST_WHOLE;
 use runs::fault;
 use verdict::Verdict;
 ghost use mathlib.Core.Path.{_≡_};
-ghost use Prim.Native.Nat.{_+_, _<_};
 ghost use lib.ListN.{length};
 ghost use Rattle.bits.specs.Bit.{of, word-with};
 ghost use Rattle.verdict.specs.Promise.{Leaves};
@@ -18,7 +19,7 @@ pub enum Operation {
 }
 
 // The operation on a word of the source and the destination's word at its place.
-fn combined(operation: Operation, s: u16, d: u16) -> u16
+pub(crate) fn combined(operation: Operation, s: u16, d: u16) -> u16
     ensures { λ r. ⌜ r ≡ word-with (λ p. combined operation (of s p) (of d p)) ⌝ }
 {
     match operation {
@@ -29,7 +30,8 @@ fn combined(operation: Operation, s: u16, d: u16) -> u16
     }
 }
 
-// The destination's n words from d on become the operation on them and the n words of the source from s on.
+// The destination's n words from d on become the operation on them and the n words of the source from s on: the last ones first where
+// the destination starts after the source.
 pub fn combine(table: &mut [u16], operation: Operation, s: usize, d: usize, n: usize) -> Verdict
     ensures { λ r. ⌜
         Leaves (combine-verdict (length (now (table .entry))) s d n) (combine-table operation (now (table .entry)) s d n)
@@ -39,15 +41,15 @@ pub fn combine(table: &mut [u16], operation: Operation, s: usize, d: usize, n: u
     if number != 0 {
         return Verdict { number, place: 0 };
     }
-    let source = copied(table, s, n);
-    let mut i = 0;
-    while i < n {
-        let at = d + i;
-        table[at] = combined(operation, source[i], table[at]);
-        i += 1;
-    }
-    Verdict {
+    let merge = Merge::Logic(operation);
+    let done = Verdict {
         number: 0,
         place: 0,
+    };
+    if s < d {
+        merge_down(table, merge, s, d, d, n);
+        return done;
     }
+    merge_up(table, merge, s, d, d, n);
+    done
 }

@@ -1,26 +1,19 @@
 // A matrix moved by one position.
 use crate::answer::Answer;
-use crate::copy::copied;
+use crate::merge::Merge;
+use crate::merge::merge_down;
+use crate::merge::merge_up;
 use bits::LONGEST_WHOLE;
 use runs::fault;
 use verdict::Verdict;
 ghost use mathlib.Core.Path.{_≡_};
 ghost use mathlib.Core.Bool.{cond};
-ghost use Rattle.bits.specs.Bit.{of, word-with};
-ghost use Rattle.bits.specs.Word.{rightward, leftward};
+ghost use Prim.Native.Nat.{_+_, _≤_};
+ghost use lib.ListN.{length};
 ghost use Rattle.verdict.specs.Promise.{Leaves};
 ghost use Rattle.matrix.specs.Answer.{bit-said};
+ghost use Rattle.matrix.specs.Inner.{merged-at, Rewritten};
 ghost use Rattle.matrix.specs.Move.{move-said, move-table};
-
-// A word moved by one, with the end bit of the word after it or before it masked in.
-fn moved(left: bool, before: u16, w: u16, after: u16) -> u16
-    ensures { λ r. ⌜ r ≡ cond left (word-with (leftward w after)) (word-with (rightward before w)) ⌝ }
-{
-    if left {
-        return bits::move_left(w, after);
-    }
-    bits::move_right(before, w)
-}
 
 // The word beyond an end of the matrix: with wrap the one at the other end, else 0.
 fn beyond(wrap: bool, other: u16) -> u16
@@ -32,14 +25,16 @@ fn beyond(wrap: bool, other: u16) -> u16
     0
 }
 
-// The bit that leaves a matrix with this first and this last word.
-fn leaving(left: bool, first: u16, last: u16) -> bool
-    ensures { λ r. ⌜ r ≡ cond left (of first 1) (of last 16) ⌝ }
+// The n words from `at` on become those of the n pairs of neighbours from s on: the last ones first where they start after s.
+fn neighbours(table: &mut [u16], merge: Merge, s: usize, at: usize, n: usize)
+    requires { ⌜ (s + 1 + n ≤ length (now table)) × (at + n ≤ length (now table)) ⌝ }
+    ensures { λ r. ⌜
+        Rewritten (now (table .entry)) (merged-at merge (now (table .entry)) s (s + 1) at) at (at + n) (now (table .exit)) ⌝ }
 {
-    if left {
-        return bits::bit_at(first, 1);
+    if s < at {
+        return merge_down(table, merge, s, s + 1, at, n);
     }
-    bits::bit_at(last, 16)
+    merge_up(table, merge, s, s + 1, at, n)
 }
 
 // The n words from s on, moved by one position, become the n words from d on; the answer is the bit that left.
@@ -52,20 +47,15 @@ pub fn move_one(table: &mut [u16], s: usize, d: usize, n: usize, left: bool, wra
     if number != 0 {
         return Answer::Refused(Verdict { number, place: 0 });
     }
-    let source = copied(table, s, n);
     let end = n - 1;
-    let first = source[0];
-    let last = source[end];
-    let mut before = beyond(wrap, last);
-    let mut i = 0;
-    while i < end {
-        let at = d + i;
-        let w = source[i];
-        table[at] = moved(left, before, w, source[i + 1]);
-        before = w;
-        i += 1;
+    let first = table[s];
+    let last = table[s + end];
+    if left {
+        neighbours(table, Merge::Left, s, d, end);
+        table[d + end] = bits::move_left(last, beyond(wrap, first));
+        return Answer::Bit(bits::bit_at(first, 1));
     }
-    let at = d + end;
-    table[at] = moved(left, before, last, beyond(wrap, first));
-    Answer::Bit(leaving(left, first, last))
+    neighbours(table, Merge::Right, s, d + 1, end);
+    table[d] = bits::move_right(beyond(wrap, last), first);
+    Answer::Bit(bits::bit_at(last, 16))
 }

@@ -13,6 +13,7 @@ use Rattle.bits.specs.Bit.{bit}
 use Rattle.pointer.specs.declared.Pointer.{Pointer}
 use Rattle.runs.specs.Run.{run, placed}
 use Rattle.search.specs.Search.{differing, first-differing}
+use Rattle.matrix.proofs.Runs.{word-inside}
 use Rattle.pointer.specs.Pointer.{reset, in-range}
 use Rattle.pointer.proofs.Pointers.{size-right, steps as sized-steps}
 use Rattle.record.specs.declared.Block.{Block}
@@ -26,7 +27,7 @@ use Rattle.blocks.specs.Kind.{kind-of}
 use Rattle.blocks.specs.View.{View, first-word, seen, view}
 use Rattle.blocks.specs.Effect.{Effect, idle, into, zeroed, starts-at, found, compare, effect-of}
 use Rattle.blocks.specs.Work.{pointer-node, matrix-put, change-put, one-word, effect-on, block-outputs}
-use Rattle.blocks.proofs.Puts.{run-bits, word-inside, bit-outside}
+use Rattle.blocks.proofs.Puts.{run-bits, bit-outside}
 use Rattle.blocks.proofs.Written.{coils-spare-word}
 use Rattle.blocks.specs.Answer.{no-outputs}
 use Rattle.scan.specs.Scan.{step, scanned}

@@ -1,84 +1,111 @@
--- `matrix::shift::move_one` meets its contract. The loop keeps `Overwriting`, as `combine`'s does, and that the end bit of
--- the word before is the one that a move to the right brings in; the last word is stored after it. Assumes nothing.
-use mathlib.Core.Path.{_≡_, sym, ap, _∙_}
+-- `matrix::shift::move_one` meets its contract: the pairs of neighbours rewritten and the word at the end that a bit enters make the moved
+-- matrix that is placed. Assumes nothing.
+use mathlib.Core.Path.{_≡_, refl, sym, ap, ap₂, _∙_}
 use mathlib.Core.Bool.{Bool, true, false, cond}
 use mathlib.Core.List.{List}
 use Prim.Native.Nat.{ℕ, _+_, _-_, _*_, _≤_, _<_}
 use native.Mathlib.Omega.{arith}
 use borrow.Author.Needs.{needs}
-use lib.ListN.{length, getD, set, length-set}
+use lib.ListN.{length, getD, set}
 use Rattle.bits.specs.Bit.{of, word-with, matrix, longest-whole}
 use Rattle.bits.specs.Word.{leftward, rightward}
-use Rattle.matrix.specs.declared.answer.Answer.the-variants.{Bit, Refused}
-use Rattle.runs.specs.Run.{run, placed, fault, Accepted}
-use Rattle.verdict.specs.Verdict.{placeless}
-use Rattle.matrix.specs.Move.{moved, leaving, move-table}
+use Rattle.runs.specs.Run.{run, placed, Accepted}
 use Rattle.runs.proofs.Refusals.{accepted, fault-none, unless-done, unless-refused}
+use Rattle.verdict.specs.Verdict.{placeless}
+use Rattle.verdict.specs.Promise.{Leaves}
+use Rattle.matrix.specs.declared.answer.Answer.the-variants.{Bit, Refused}
+use Rattle.matrix.specs.declared.merge.Merge.the-variants.{Left, Right}
+use Rattle.matrix.specs.Answer.{bit-said}
+use Rattle.matrix.specs.Move.{moved, leaving, move-said, move-table}
+use Rattle.matrix.specs.Inner.{merged, merged-at, Rewritten}
 use Rattle.matrix.proofs.Answers.{says}
-use Rattle.matrix.proofs.Runs.{Overwriting, none-yet, same-long, one-more, all-done, source-bit}
-use Rattle.matrix.proofs.Moving.{after-inside, after-last, before-first, before-next, moved-word, left-over}
+use Rattle.matrix.proofs.Runs.{run-at}
+use Rattle.matrix.proofs.Rewriting.{stored, restated, until, same, then-after, then-before, placing}
+use Rattle.matrix.proofs.Moving.{after-inside, after-last, left-word, before-first, before-next, right-word, left-over}
 use Rattle.matrix.proofs.shift.move_one.Statement.{statement}
 use Rattle.matrix.proofs.shift.move_one.Tie as tie
 
-record Moving (t : List ℕ) (s d n : ℕ) (left wrap : Bool) (source table : List ℕ) (before i : ℕ) : Type 0 where
-  over : Overwriting t s d n (moved left wrap (run t s n) n) source table i
-  one-left : i < n
-  enters : of before 16 ≡ moved false wrap (run t s n) n (i * 16 + 1)
+module _ (t : List ℕ) (s d n : ℕ) (wrap : Bool) (h : Accepted longest-whole (length t) n s d) where
+  -- word k of the destination afterwards
+  abbrev after : Bool → ℕ → ℕ
+  after left k = word-with (λ p. moved left wrap (run t s n) n ((k - d) * 16 + p))
 
-module _ {t : List ℕ} {s d n : ℕ} {left wrap : Bool} {source : List ℕ} where
-  starts : {before : ℕ} → Accepted longest-whole (length t) n s d → ((k : ℕ) → k < n → getD source k 0 ≡ getD t (s + k) 0)
-      → before ≡ cond wrap (getD source (n - 1) 0) 0 → Moving t s d n left wrap source t before 0
-  starts h e b =
-      let o : Overwriting t s d n (moved left wrap (run t s n) n) source t 0 = none-yet h e in
+  -- word i of the source
+  source : (i j : ℕ) → i < n → j ≡ s + i → getD t j 0 ≡ getD (run t s n) i 0
+  source i j l e = ap (λ (k : ℕ). getD t k 0) e ∙ sym (run-at t s n i l)
+
+  -- ---- to the left
+  neighbours-left : (k : ℕ) → d ≤ k → k < d + (n - 1) → merged-at Left t s (s + 1) d k ≡ after true k
+  unfolding merged
+  neighbours-left k l u =
+      ap₂ (λ (x y : ℕ). word-with (leftward x y)) (source (k - d) _ (omega arith) refl) (source (k - d + 1) _ (omega arith) (omega arith))
+      ∙ left-word (run t s n) n wrap (k - d) _ (omega arith) (after-inside (run t s n) n wrap (k - d) (omega arith))
+
+  last-left : (k : ℕ) → k ≡ d + (n - 1) → word-with (leftward (getD t (s + (n - 1)) 0) (cond wrap (getD t s 0) 0)) ≡ after true k
+  last-left k e =
+      ap₂ (λ (x y : ℕ). word-with (leftward x (cond wrap y 0))) (source (k - d) _ (omega (arith, h .some-words)) (omega arith)) (source 0 _ (h .some-words) (omega arith))
+      ∙ left-word (run t s n) n wrap (k - d) _ (omega (arith, h .some-words)) (after-last (run t s n) n wrap (k - d) (omega (arith, h .some-words)))
+
+  pub to-the-left : {table : List ℕ} (v enters : ℕ) → Rewritten t (merged-at Left t s (s + 1) d) d (d + (n - 1)) table
+      → v ≡ word-with (leftward (getD t (s + (n - 1)) 0) enters) → enters ≡ cond wrap (getD t s 0) 0
+      → set table (d + (n - 1)) v ≡ placed t d (matrix n (moved true wrap (run t s n) n))
+  to-the-left {table} v enters r e b =
+      same
+      (until (omega (arith, h .some-words))
+      (then-after (restated r neighbours-left) (omega arith)
+      (restated (stored table (d + (n - 1)) v (omega (arith, h .some-words, h .second, r .long))) (λ k l u. e ∙ ap (λ (x : ℕ). word-with (leftward (getD t (s + (n - 1)) 0) x)) b ∙ last-left k (omega arith)))
+      (omega arith)))
+      (placing t d n (moved true wrap (run t s n) n) (h .second))
+
+  -- ---- to the right
+  neighbours-right : (k : ℕ) → d + 1 ≤ k → k < d + 1 + (n - 1) → merged-at Right t s (s + 1) (d + 1) k ≡ after false k
+  unfolding merged
+  neighbours-right k l u =
+      let i : ℕ = k - (d + 1) in
+      let at : i + 1 ≡ k - d = omega arith in
+      ap₂ (λ (x y : ℕ). word-with (rightward x y)) (source i _ (omega arith) refl) (source (i + 1) _ (omega arith) (omega arith))
+      ∙ right-word (run t s n) n wrap (i + 1) _ (before-next (run t s n) n wrap i)
+      ∙ ap (λ (j : ℕ). word-with (λ p. moved false wrap (run t s n) n (j * 16 + p))) at
+
+  first-right : (k : ℕ) → k ≡ d → word-with (rightward (cond wrap (getD t (s + (n - 1)) 0) 0) (getD t s 0)) ≡ after false k
+  first-right k e =
+      let at : 0 ≡ k - d = omega arith in
+      ap₂ (λ (x y : ℕ). word-with (rightward (cond wrap x 0) y)) (source (n - 1) _ (omega (arith, h .some-words)) refl) (source 0 _ (h .some-words) (omega arith))
+      ∙ right-word (run t s n) n wrap 0 _ (before-first (run t s n) n wrap (h .some-words))
+      ∙ ap (λ (j : ℕ). word-with (λ p. moved false wrap (run t s n) n (j * 16 + p))) at
+
+  pub to-the-right : {table : List ℕ} (v enters : ℕ) → Rewritten t (merged-at Right t s (s + 1) (d + 1)) (d + 1) (d + 1 + (n - 1)) table
+      → v ≡ word-with (rightward enters (getD t s 0)) → enters ≡ cond wrap (getD t (s + (n - 1)) 0) 0
+      → set table d v ≡ placed t d (matrix n (moved false wrap (run t s n) n))
+  to-the-right {table} v enters r e b =
+      same
+      (until (omega (arith, h .some-words))
+      (then-before (restated r neighbours-right) (omega arith)
+      (restated (stored table d v (omega (arith, h .some-words, h .second, r .long))) (λ k l u. e ∙ ap (λ (x : ℕ). word-with (rightward x (getD t s 0))) b ∙ first-right k (omega arith)))
+      (omega arith)))
+      (placing t d n (moved false wrap (run t s n) n) (h .second))
+
+  -- ---- either way
+  pub left-bit : (left : Bool) → cond left (of (getD t s 0) 1) (of (getD t (s + (n - 1)) 0) 16) ≡ leaving left (run t s n) n
+  left-bit left =
+      ap₂ (λ (x y : ℕ). cond left (of x 1) (of y 16)) (source 0 _ (h .some-words) (omega arith)) (source (n - 1) _ (omega (arith, h .some-words)) refl)
+      ∙ left-over (run t s n) n wrap left (h .some-words)
+
+  pub carried-out : (left goes on : Bool) {table : List ℕ} → left ≡ goes → on ≡ cond goes (of (getD t s 0) 1) (of (getD t (s + (n - 1)) 0) 16)
+      → table ≡ placed t d (matrix n (moved goes wrap (run t s n) n))
+      → Leaves (move-said left t s d n) (move-table left wrap t s d n) (bit-said (Bit on)) table
+  unfolding move-table
+  carried-out left goes on way bit e =
+      let none = fault-none _ _ _ _ _ h in
       record {
-        over = o;
-        one-left = h .some-words;
-        enters = ap (λ (w : ℕ). of w 16) b ∙ before-first (run t s n) n wrap source (source-bit o) (h .some-words);
+        answers = says _ _ _ (ap Bit (bit ∙ left-bit goes ∙ ap (λ (b : Bool). leaving b (run t s n) n) (sym way)) ∙ sym (unless-done _ _ _ none));
+        leaves = e ∙ ap (λ (b : Bool). placed t d (matrix n (moved b wrap (run t s n) n))) (sym way) ∙ sym (unless-done _ _ _ none);
       }
 
-  module _ {table : List ℕ} {before i : ℕ} (v : Moving t s d n left wrap source table before i) where
-    -- the word that is stored, with the word after it
-    stored : {w : ℕ} (after : ℕ) → w ≡ cond left (word-with (leftward (getD source i 0) after)) (word-with (rightward before (getD source i 0)))
-        → of after 1 ≡ moved true wrap (run t s n) n (i * 16 + 16) → Overwriting t s d n (moved left wrap (run t s n) n) source (set table (d + i) w) (i + 1)
-    stored after e a =
-        one-more (v .over) (v .one-left)
-        (e ∙ moved-word (run t s n) n wrap source (source-bit (v .over)) left i before after (v .one-left) (v .enters) a)
-
-    -- a turn of the loop
-    turn : {w : ℕ} → i < n - 1 → w ≡ cond left (word-with (leftward (getD source i 0) (getD source (i + 1) 0))) (word-with (rightward before (getD source i 0)))
-        → Moving t s d n left wrap source (set table (d + i) w) (getD source i 0) (i + 1)
-    turn l e = record {
-      over = stored (getD source (i + 1) 0) e (after-inside (run t s n) n wrap source (source-bit (v .over)) i (omega arith));
-      one-left = omega arith;
-      enters = before-next (run t s n) n wrap source (source-bit (v .over)) i (v .one-left);
-    }
-
-    -- the store after it
-    last-word : {w : ℕ} (after : ℕ) → n - 1 ≤ i → after ≡ cond wrap (getD source 0 0) 0
-        → w ≡ cond left (word-with (leftward (getD source (n - 1) 0) after)) (word-with (rightward before (getD source (n - 1) 0)))
-        → set table (d + (n - 1)) w ≡ placed t d (matrix n (moved left wrap (run t s n) n))
-    last-word {w} after l a e =
-        let at : n - 1 ≡ i = omega arith in
-        ap (λ (k : ℕ). set table (d + k) w) at
-        ∙ all-done
-        (stored after (e ∙ ap (λ (k : ℕ). cond left (word-with (leftward (getD source k 0) after)) (word-with (rightward before (getD source k 0)))) at)
-        (ap (λ (x : ℕ). of x 1) a ∙ after-last (run t s n) n wrap source (source-bit (v .over)) i (omega arith)))
-        (omega arith)
-
-    -- the bit that left
-    left-bit : cond left (of (getD source 0 0) 1) (of (getD source (n - 1) 0) 16) ≡ leaving left (run t s n) n
-    left-bit = left-over (run t s n) n wrap source (source-bit (v .over)) left (v .over .runs .some-words)
-
-abbrev Inv-loop : tie.InvT-loop
-Inv-loop table₀ s d n left wrap number source end first last before₀ i₀ table before i = Moving table₀ s d n left wrap source table before i
-
-abbrev μ-loop : tie.MeasureT-loop
-μ-loop table₀ s d n left wrap number source end first last before₀ i₀ table before i = n - i
-
-fault-requires : tie.Need-fault-requires Inv-loop μ-loop
+fault-requires : tie.Need-fault-requires
 fault-requires c κs = search needs
 
-returns : tie.Need-returns Inv-loop μ-loop
+returns : tie.Need-returns
 unfolding move-table
 returns c =
     let e = c .before .fault .ensures in
@@ -87,135 +114,116 @@ returns c =
       leaves = sym (unless-refused _ _ _ (λ z. c .if1 .taken (e ∙ z)));
     }
 
-runs : (c : tie.Else1 Inv-loop μ-loop) → let x = c .before .before .before .args in Accepted longest-whole (length (x .table .now)) (x .n) (x .s) (x .d)
+runs : (c : tie.Else1) → let x = c .before .before .before .args in Accepted longest-whole (length (x .table .now)) (x .n) (x .s) (x .d)
 runs c = accepted _ _ _ _ _ (sym (c .before .fault .ensures) ∙ c .if1 .left)
 
-copied-requires : tie.Need-copied-requires Inv-loop μ-loop
-copied-requires c κs = (runs (c .before) .few, runs (c .before) .first)
+sub-end : tie.Need-sub-end
+sub-end c = runs c .some-words
 
-sub-end : tie.Need-sub-end Inv-loop μ-loop
-sub-end c = runs (c .before .before) .some-words
+mul-first : tie.Need-mul-first
+mul-first c = omega (arith, runs c)
 
-array-read-first : tie.Need-array-read-first Inv-loop μ-loop
-array-read-first c = search needs
+slice-read-first : tie.Need-slice-read-first
+slice-read-first c = omega (arith, runs (c .before))
 
-mul-last : tie.Need-mul-last Inv-loop μ-loop
-mul-last c = let h = runs (c .before .before) in omega arith
+add-last : tie.Need-add-last
+add-last c = omega (arith, runs (c .before))
 
-array-read-last : tie.Need-array-read-last Inv-loop μ-loop
-array-read-last c = let h = runs (c .before .before) in omega arith
+mul-last : tie.Need-mul-last
+mul-last c = omega (arith, runs (c .before))
 
-beyond-requires : tie.Need-beyond-requires Inv-loop μ-loop
+slice-read-last : tie.Need-slice-read-last
+slice-read-last c = omega (arith, runs (c .before .before))
+
+neighbours-requires : tie.Need-neighbours-requires
+neighbours-requires c κs = let h = runs (c .before .before .before .before) in (omega (arith, h), omega (arith, h))
+
+beyond-requires : tie.Need-beyond-requires
 beyond-requires c κs = search needs
 
-loop-holds : tie.Need-loop-holds Inv-loop μ-loop
-loop-holds c = starts (runs (c .before .before .before)) (c .before .copied .ensures) (c .beyond .ensures)
+move-left-requires : tie.Need-move-left-requires
+move-left-requires c κs = search needs
 
-add-at : tie.Need-add-at Inv-loop μ-loop
-add-at c = omega (arith, c .before .loop .inv .over .runs)
+add-table : tie.Need-add-table
+add-table c = omega (arith, runs (c .before .before .before .before .before .before .before .before .before))
 
-mul-w : tie.Need-mul-w Inv-loop μ-loop
-mul-w c = omega (arith, c .before .loop .inv .over .runs)
+mul-table : tie.Need-mul-table
+mul-table c = omega (arith, runs (c .before .before .before .before .before .before .before .before .before))
 
-array-read-w : tie.Need-array-read-w Inv-loop μ-loop
-array-read-w c = omega (arith, c .before .loop .inv .over .runs)
+slice-write-table : tie.Need-slice-write-table
+slice-write-table c = omega (arith, runs (c .before .before .before .before .before .before .before .before .before), c .before .before .before .before .neighbours .ensures .long)
 
-add-moved : tie.Need-add-moved Inv-loop μ-loop
-add-moved c = omega (arith, c .before .loop .inv .over .runs)
+bit-at-requires : tie.Need-bit-at-requires
+bit-at-requires c κs = search needs
 
-mul-moved : tie.Need-mul-moved Inv-loop μ-loop
-mul-moved c = omega (arith, c .before .loop .inv .over .runs)
+same-length : tie.Need-same-length
+same-length c = search needs
 
-array-read-moved : tie.Need-array-read-moved Inv-loop μ-loop
-array-read-moved c = omega (arith, c .before .loop .inv .over .runs)
+returns-2 : tie.Need-returns-2
+returns-2 c =
+    let x = c .before .before .before .before .before .before .before .before .before .before .before .before .before .args in
+    let h = runs (c .before .before .before .before .before .before .before .before .before .before) in
+    carried-out (x .table .now) (x .s) (x .d) (x .n) (x .wrap) h (x .left) true _ (c .before .before .before .before .before .before .before .if2 .taken) (c .bit-at .ensures)
+    (to-the-left (x .table .now) (x .s) (x .d) (x .n) (x .wrap) h _ _ (c .before .before .before .before .before .neighbours .ensures) (c .before .move-left .ensures) (c .before .before .beyond .ensures))
 
-moved-requires : tie.Need-moved-requires Inv-loop μ-loop
-moved-requires c κs = search needs
+add-neighbours : tie.Need-add-neighbours
+add-neighbours c = omega (arith, runs (c .before .before .before .before))
 
-mul-table : tie.Need-mul-table Inv-loop μ-loop
-mul-table c = omega (arith, c .before .before .loop .inv .over .runs)
+neighbours-requires-2 : tie.Need-neighbours-requires-2
+neighbours-requires-2 c κs = let h = runs (c .before .before .before .before) in (omega (arith, h), omega (arith, h))
 
-slice-write-table : tie.Need-slice-write-table Inv-loop μ-loop
-slice-write-table c =
-    let o = c .before .before .loop .inv .over in
-    omega (arith, o .runs, same-long o)
-
-add-i : tie.Need-add-i Inv-loop μ-loop
-add-i c = omega (arith, c .before .before .loop .inv .over .runs)
-
-loop-less : tie.Need-loop-less Inv-loop μ-loop
-loop-less c = omega arith
-
-loop-again : tie.Need-loop-again Inv-loop μ-loop
-loop-again c = turn (c .before .before .loop .inv) (c .before .loop-test .taken) (c .moved .ensures)
-
-add-at-2 : tie.Need-add-at-2 Inv-loop μ-loop
-add-at-2 c = omega (arith, c .before .loop .inv .over .runs)
-
-beyond-requires-2 : tie.Need-beyond-requires-2 Inv-loop μ-loop
+beyond-requires-2 : tie.Need-beyond-requires-2
 beyond-requires-2 c κs = search needs
 
-moved-requires-2 : tie.Need-moved-requires-2 Inv-loop μ-loop
-moved-requires-2 c κs = search needs
+move-right-requires : tie.Need-move-right-requires
+move-right-requires c κs = search needs
 
-mul-table-2 : tie.Need-mul-table-2 Inv-loop μ-loop
-mul-table-2 c = omega (arith, c .before .before .before .loop .inv .over .runs)
+mul-table-2 : tie.Need-mul-table-2
+mul-table-2 c = omega (arith, runs (c .before .before .before .before .before .before .before .before .before))
 
-slice-write-table-2 : tie.Need-slice-write-table-2 Inv-loop μ-loop
-slice-write-table-2 c =
-    let o = c .before .before .before .loop .inv .over in
-    omega (arith, o .runs, same-long o)
+slice-write-table-2 : tie.Need-slice-write-table-2
+slice-write-table-2 c = omega (arith, runs (c .before .before .before .before .before .before .before .before .before), c .before .before .before .before .neighbours2 .ensures .long)
 
-leaving-requires : tie.Need-leaving-requires Inv-loop μ-loop
-leaving-requires c κs = search needs
+bit-at-requires-2 : tie.Need-bit-at-requires-2
+bit-at-requires-2 c κs = search needs
 
-same-length : tie.Need-same-length Inv-loop μ-loop
-same-length c = simp length-set (same-long (c .before .before .before .before .loop .inv .over))
+same-length-2 : tie.Need-same-length-2
+same-length-2 c = search needs
 
-returns-2 : tie.Need-returns-2 Inv-loop μ-loop
-unfolding move-table
-returns-2 c =
-    let v = c .before .before .before .before .loop .inv in
-    let none = fault-none _ _ _ _ _ (v .over .runs) in
-    record {
-      answers = says _ _ _ (ap Bit (c .leaving .ensures ∙ left-bit v) ∙ sym (unless-done _ _ _ none));
-      leaves =
-          last-word v _ (c .before .before .before .loop-test .left) (c .before .before .beyond2 .ensures) (c .before .moved2 .ensures)
-          ∙ sym (unless-done _ _ _ none);
-    }
+returns-3 : tie.Need-returns-3
+returns-3 c =
+    let x = c .before .before .before .before .before .before .before .before .before .before .before .before .before .args in
+    let h = runs (c .before .before .before .before .before .before .before .before .before .before) in
+    carried-out (x .table .now) (x .s) (x .d) (x .n) (x .wrap) h (x .left) false _ (c .before .before .before .before .before .before .before .if2 .left) (c .bit-at2 .ensures)
+    (to-the-right (x .table .now) (x .s) (x .d) (x .n) (x .wrap) h _ _ (c .before .before .before .before .before .neighbours2 .ensures) (c .before .move-right .ensures) (c .before .before .beyond2 .ensures))
 
 pub move-one-spec : {M : Type 1} → statement M
 move-one-spec =
     tie.close
     (tie.spec
-    Inv-loop
-    μ-loop
     fault-requires
     returns
-    copied-requires
     sub-end
-    array-read-first
+    mul-first
+    slice-read-first
+    add-last
     mul-last
-    array-read-last
+    slice-read-last
+    neighbours-requires
     beyond-requires
-    loop-holds
-    add-at
-    mul-w
-    array-read-w
-    add-moved
-    mul-moved
-    array-read-moved
-    moved-requires
+    move-left-requires
+    add-table
     mul-table
     slice-write-table
-    add-i
-    loop-less
-    loop-again
-    add-at-2
+    bit-at-requires
+    same-length
+    returns-2
+    add-neighbours
+    neighbours-requires-2
     beyond-requires-2
-    moved-requires-2
+    move-right-requires
     mul-table-2
     slice-write-table-2
-    leaving-requires
-    same-length
-    returns-2)
+    bit-at-requires-2
+    same-length-2
+    returns-3)
