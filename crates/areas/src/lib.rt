@@ -1,6 +1,8 @@
 // The areas in words: a network's first section, the sizes of its areas and the level, each word when it is reached.
 //
 // Every call takes any words.
+#![tactic(auto)]
+
 ghost use Rattle.std.specs.Prelude.{◌≡◌, ◌≤◌, take};
 ghost use Rattle.section.specs.Walk.{word, first_of, seek};
 ghost use Rattle.areas.specs.Areas.{sizes_faults, has_level, sizes_of, areas_end, areas_of};
@@ -12,7 +14,7 @@ use table::{MOST_COILS, MOST_DISCRETES, MOST_HOLDING, MOST_INPUTS, Sizes};
 use verdict::Verdict;
 
 // The verdict on the areas with what their words spell: the sizes with the level, and the index after the areas.
-#[derive(Drop)]
+#[derive(Clone, Copy)]
 pub struct Areas {
     pub verdict: Verdict,
     pub sizes: Sizes,

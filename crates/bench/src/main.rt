@@ -4,6 +4,8 @@
 // All that is printed is put into a buffer by the library: what `put_refusal` put, or what the calls of `run` put one after the other.
 // That this is the text of the bytes is proved (`calls-print` of `run`), and that more bytes than are read would change nothing
 // (`front-is-enough`).
+#![tactic(auto)]
+
 ghost use Rattle.std.specs.Prelude.{◌≤◌, ◌≡◌, length};
 ghost use Rattle.run.specs.Page.{least_room};
 ghost use Rattle.bench.specs.Begun.{Begun};
@@ -51,7 +53,7 @@ const NO_INPUT: u8 = b'i';
 const NO_OUTPUT: u8 = b'o';
 
 // How many bytes of the input there are, and whether no read of it failed.
-#[derive(Drop)]
+#[derive(Clone, Copy)]
 struct Input {
     count: usize,
     readable: bool,
@@ -84,7 +86,7 @@ fn read_input(bytes: &mut [u8]) -> Input
 }
 
 // The words of the input.
-#[derive(Drop)]
+#[derive(Clone, Copy)]
 struct Given {
     count: usize,
     odd: bool,

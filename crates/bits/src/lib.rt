@@ -1,5 +1,7 @@
 // One word of 16 bits, worked on whole and promised by its bits. Bit 1 is the high-order bit, worth 32768; bit 16 is
 // worth 1. Every function takes any word and any position, and its contract gives the answer for each of them.
+#![tactic(auto)]
+
 ghost use Rattle.std.specs.Prelude.{◌≡◌, not, ◌&&◌, ◌||◌};
 ghost use Rattle.std.specs.Bool.{xor};
 ghost use Rattle.bits.specs.Bit.{of, word_with};

@@ -8,7 +8,7 @@ use crate::Outputs;
 use verdict::Verdict;
 
 // The verdict on a block, and its outputs, which are all off where it is refused.
-#[derive(Drop)]
+#[derive(Clone, Copy)]
 pub struct Worked {
     pub verdict: Verdict,
     pub outputs: Outputs,

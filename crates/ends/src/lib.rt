@@ -2,6 +2,8 @@
 //
 // Each public call takes any buffer, any place in it and any numbers, and answers the place after what it put. Where fewer bytes
 // than the longest line takes are left from the place on, it puts nothing.
+#![tactic(auto)]
+
 mod put;
 
 ghost use Rattle.verdict.specs.Verdict.{verdict};

@@ -11,7 +11,7 @@ use verdict::Verdict;
 
 // The verdict on a file with what its words spell: the network at its front, the index of the image's first word, how many words
 // the image has, and the scans.
-#[derive(Drop)]
+#[derive(Clone, Copy)]
 pub struct OpenedFile {
     pub verdict: Verdict,
     pub network: Opened,

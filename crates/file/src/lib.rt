@@ -2,6 +2,8 @@
 // run on a lent table.
 //
 // Every call takes any words. It accepts them, or it refuses them with document 01's number and place and changes nothing.
+#![tactic(auto)]
+
 mod checker;
 mod starting;
 

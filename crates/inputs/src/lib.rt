@@ -2,6 +2,8 @@
 //
 // Nothing is asked of a caller: a contact that is numbered 0, or past its area, or past the table's end is off, and so is the output of a
 // block that has no entry.
+#![tactic(auto)]
+
 ghost use Rattle.std.specs.Prelude.{◌≡◌, map, ◌-◌, get_or};
 ghost use Rattle.bits.specs.Bit.{bit, of};
 ghost use Rattle.runs.specs.Run.{run};

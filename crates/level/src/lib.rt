@@ -1,6 +1,8 @@
 // The levels of a machine, 1 and 2, and the limits that go by them. At another level nothing is allowed: a limit is 0 there.
 //
 // Every call takes any level.
+#![tactic(auto)]
+
 ghost use Rattle.std.specs.Prelude.{◌≡◌};
 ghost use Rattle.level.specs.Level.{at_level, single_length, most_constant};
 
@@ -10,7 +12,7 @@ use bits::{LONGEST, LONGEST_WHOLE};
 pub const MOST_LEVEL: usize = 2;
 
 // A limit at level 1 and at level 2.
-#[derive(Drop)]
+#[derive(Clone, Copy)]
 pub struct ByLevel {
     pub one: u16,
     pub two: u16,

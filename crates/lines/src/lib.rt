@@ -3,6 +3,8 @@
 // Each public call takes any buffer, any place in it, any machine words as the labels of scan and block (`text::label`), any outputs
 // and any pointer, and answers the place after what it put. Where fewer bytes than the longest line takes are left from the place on,
 // it puts nothing. The kind of the block says which call: one without a pointer, one with a pointer, or a compare, which alone counts.
+#![tactic(auto)]
+
 mod put;
 
 ghost use Rattle.std.specs.Prelude.{◌+◌, ◌≤◌, ◌≡◌, ◌++◌, [], ◌∷◌, length};

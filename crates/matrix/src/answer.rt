@@ -1,7 +1,7 @@
 use verdict::Verdict;
 
 // A bit, or a refusal.
-#[derive(Drop)]
+#[derive(Clone, Copy)]
 pub enum Answer {
     Bit(bool),
     Refused(Verdict),

@@ -9,7 +9,7 @@ use bits::LONGEST_WHOLE;
 use runs::fault;
 use verdict::Verdict;
 
-#[derive(Drop)]
+#[derive(Clone, Copy)]
 pub enum Operation {
     And,
     Or,

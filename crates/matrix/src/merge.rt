@@ -7,7 +7,7 @@ use crate::logic::{Operation, combined};
 
 // How two words become one: a word of the source and the destination's at its place by an operation; or two neighbours, of which the
 // first is moved left or the second right.
-#[derive(Drop)]
+#[derive(Clone, Copy)]
 pub(crate) enum Merge {
     Logic(Operation),
     Left,

@@ -15,7 +15,7 @@ use verdict::Verdict;
 
 // The verdict on a network with what its words spell: the sizes with the level, the count of blocks, and the index after the last
 // block. Only `leading` and `opening` make one.
-#[derive(Drop)]
+#[derive(Clone, Copy)]
 pub struct Opened {
     pub(crate) verdict: Verdict,
     pub(crate) sizes: Sizes,

@@ -1,6 +1,8 @@
 // Networks in words: the checker, and the record of block k.
 //
 // Every call takes any words. It does its work, or it refuses with document 01's number and place.
+#![tactic(auto)]
+
 mod checker;
 mod reading;
 

@@ -8,7 +8,7 @@ use record::{Block, block_at};
 use verdict::Verdict;
 
 // A record, or a refusal.
-#[derive(Drop)]
+#[derive(Clone, Copy)]
 pub enum Read {
     Record(Block),
     Refused(Verdict),

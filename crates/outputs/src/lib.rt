@@ -2,6 +2,8 @@
 //
 // The scan is done on packed numbers, in a list of its own (`numbered`). `fill` and `scan`, in whose bodies a list of records
 // stands, only move what the numbers say into it.
+#![tactic(auto)]
+
 ghost use Rattle.std.specs.Prelude.{◌≡◌, map, ◌++◌, ◌<◌, ◌≤◌, min, length, take, drop, get_or};
 ghost use Rattle.network.specs.Check.{most_blocks};
 ghost use Rattle.blocks.specs.Packed.{unpacked};

@@ -4,6 +4,8 @@
 // Nothing is asked of a caller: any words and any opening have a plan, that of the blocks which the reader gives. It has 24 numbers
 // for each of them, as many as have room; what stands after them stays. Its indexes are into a run's state, which is the table and
 // then one word for each block, its outputs packed; the contract does not say that they lie in it.
+#![tactic(auto)]
+
 mod steps;
 
 ghost use Rattle.std.specs.Prelude.{◌≡◌, length};
@@ -14,7 +16,7 @@ use network::{Opened, Read};
 use steps::{put_step, step_of};
 
 // An input: there is power where the word at an index, masked, is the wanted one.
-#[derive(Drop)]
+#[derive(Clone, Copy)]
 pub struct Look {
     pub at: u32,
     pub mask: u32,
@@ -22,7 +24,7 @@ pub struct Look {
 }
 
 // A coil: an index and a mask, 0 for none.
-#[derive(Drop)]
+#[derive(Clone, Copy)]
 pub struct Spot {
     pub at: u32,
     pub mask: u32,

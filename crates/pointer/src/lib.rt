@@ -2,13 +2,15 @@
 //
 // Every step takes any pointer and any size. A size that is not 16n for n from 1 to the longest comes back with its pointer
 // as it was.
+#![tactic(auto)]
+
 ghost use Rattle.std.specs.Prelude.{◌≡◌};
 ghost use Rattle.pointer.specs.Pointer.{sized, reset, in_range, advanced, set_to, next_of};
 
 use bits::LONGEST;
 
 // A pointer and its size, the number of bits that it points into.
-#[derive(Drop)]
+#[derive(Clone, Copy)]
 pub struct Pointer {
     pub at: u16,
     pub size: u16,

@@ -1,6 +1,8 @@
 // The reader: opened on lent words, it gives the record of block k.
 //
 // It takes any words. It gives the record, or the checker's refusal, or 12 for a block that is not there.
+#![tactic(auto)]
+
 ghost use Rattle.std.specs.Prelude.{◌≡◌};
 ghost use Rattle.network.specs.Check.{record_said, read_at, read};
 ghost use Rattle.reader.specs.Reader.{OpenedOn};
@@ -8,7 +10,7 @@ ghost use Rattle.reader.specs.Reader.{OpenedOn};
 use network::{Opened, Read, opening, record_at};
 
 // A reader over the lent words, with what opening them found.
-#[derive(Drop)]
+#[derive(Clone, Copy)]
 pub struct Reader<'a> {
     words: &'a [u16],
     found: Opened,

@@ -1,25 +1,27 @@
 // A block's record, and what record stands in the words from an index on.
 //
 // Any 15 words are a record. A word that is missing reads as 0.
+#![tactic(auto)]
+
 ghost use Rattle.std.specs.Prelude.{◌≡◌, ℕ, ◌+◌, ◌≤◌, ◌<◌, length, drop};
 ghost use Rattle.section.specs.Walk.{word};
 ghost use Rattle.record.specs.Record.{block_in, block_from};
 
 // A reference: its class (0, 1, 3 or 4, or 9 for a constant) and its number.
-#[derive(Drop)]
+#[derive(Clone, Copy)]
 pub struct Node {
     pub class: u16,
     pub number: u16,
 }
 
 // An input: its code (0 to 8) and its number.
-#[derive(Drop)]
+#[derive(Clone, Copy)]
 pub struct Input {
     pub code: u16,
     pub number: u16,
 }
 
-#[derive(Drop)]
+#[derive(Clone, Copy)]
 pub struct Inputs {
     pub top: Input,
     pub middle: Input,
@@ -27,7 +29,7 @@ pub struct Inputs {
 }
 
 // The coils of the three outputs, 0 for none.
-#[derive(Drop)]
+#[derive(Clone, Copy)]
 pub struct Coils {
     pub top: u16,
     pub middle: u16,
@@ -35,7 +37,7 @@ pub struct Coils {
 }
 
 // A record: any 15 words are one.
-#[derive(Drop)]
+#[derive(Clone, Copy)]
 pub struct Block {
     pub kind: u16,
     pub n: u16,

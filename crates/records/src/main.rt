@@ -5,6 +5,8 @@
 // the fifth entry is seen to stay where there are four blocks, and all five where the scan is refused. A refusal is told by its
 // number and place. What is printed must be what stands in the file stdout. The program stops at the first write that fails,
 // and prints nothing after it.
+#![tactic(auto)]
+
 mod lent;
 mod print;
 

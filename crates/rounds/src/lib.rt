@@ -1,2 +1,3 @@
 // Demand 3: a compare block reports every difference once in every round of scans. The crate has no code: what a round is stands in
 // `specs/`, that scans keep it in `proofs/`. Beside it what a compare counts, and MBIT's middle lamp.
+#![tactic(auto)]

@@ -5,7 +5,7 @@ ghost use Rattle.rules.specs.Rules.{rule, allows};
 use level::{ByLevel, SINGLE_LENGTH, WHOLE_LENGTH};
 
 // The classes that a node may have.
-#[derive(Drop)]
+#[derive(Clone, Copy)]
 pub struct Classes {
     pub coils: bool,
     pub discretes: bool,
@@ -16,7 +16,7 @@ pub struct Classes {
 
 // The classes of both nodes, the greatest length by level, the middle node's registers beside its matrix, and whether the top node is
 // a pointer.
-#[derive(Drop)]
+#[derive(Clone, Copy)]
 pub struct Rule {
     pub top: Classes,
     pub middle: Classes,

@@ -3,6 +3,8 @@
 // The call takes any words, any state and any buffer. A state is the table and after it a word for each block, its outputs when it was
 // last visited, packed. The call does its work, or it refuses with document 01's number and place and changes nothing. It may stop between
 // any two blocks, and it says where to go on.
+#![tactic(auto)]
+
 mod visit;
 mod visits;
 
@@ -21,7 +23,7 @@ use verdict::Verdict;
 pub use visits::VISIT_ROOM;
 
 // The verdict, the visit to go on from, and how many bytes were put into the buffer. Past the last visit the run is at its end.
-#[derive(Drop)]
+#[derive(Clone, Copy)]
 pub struct Went {
     pub verdict: Verdict,
     pub next: usize,

@@ -18,7 +18,7 @@ pub const VISIT_ROOM: usize = 26;
 const NO_KIND: u32 = 9;
 
 // Whose turn it is: the scan, and how many of its blocks were visited.
-#[derive(Drop)]
+#[derive(Clone, Copy)]
 struct Turn {
     scan: u16,
     block: usize,
@@ -125,7 +125,7 @@ fn at_once(room: usize, left: usize) -> usize
 }
 
 // Where visits stopped: the visit to go on from, and the place after the last line.
-#[derive(Drop)]
+#[derive(Clone, Copy)]
 pub(crate) struct Reached {
     pub(crate) visit: usize,
     pub(crate) at: usize,

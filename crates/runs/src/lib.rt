@@ -1,6 +1,8 @@
 // Runs of words in a table, given as the index of their first word, counted from 0, and their length in words: which are refused, for
 // every call that is handed one. A length that the call does not take is refused with 5, a run outside the table or a position
 // outside the matrix with 8.
+#![tactic(auto)]
+
 ghost use Rattle.std.specs.Prelude.{◌≡◌};
 ghost use Rattle.runs.specs.Run.{fault, fault_at};
 

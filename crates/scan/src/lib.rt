@@ -3,6 +3,8 @@
 //
 // A scan takes any words, any table and any outputs. It does its work, or it refuses with document 01's number and place and
 // changes nothing. The records of a network are checked, read and located before its first block runs.
+#![tactic(auto)]
+
 mod block;
 mod coil;
 mod located;

@@ -1,6 +1,8 @@
 // The first differing position of two matrices in one lent table of words.
 //
 // The search asks nothing of its caller: it refuses what a call on matrices refuses, with the same numbers.
+#![tactic(auto)]
+
 ghost use Rattle.std.specs.Prelude.{◌≡◌, true, ◌≤◌, length};
 ghost use Rattle.bits.specs.Bit.{longest_whole};
 ghost use Rattle.runs.specs.Run.{run, Accepted};
@@ -12,7 +14,7 @@ use runs::fault;
 use verdict::Verdict;
 
 // A position, counted from 1, at which two matrices differ; nothing, where no later position differs; or a refusal.
-#[derive(Drop)]
+#[derive(Clone, Copy)]
 pub enum Difference {
     At(u16),
     Nothing,

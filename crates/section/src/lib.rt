@@ -1,6 +1,8 @@
 // Words in sections: a network and a file are sections one after the other, each after its count, whose words are checked from
 // the first on. What a section is, and what is true of any sections in turn, stands in `specs/` and `proofs/`. And how a number is
 // tested by a limit.
+#![tactic(auto)]
+
 mod limit;
 
 ghost use Rattle.std.specs.Prelude.{◌≡◌, cond, [], ◌∷◌};

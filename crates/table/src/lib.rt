@@ -1,6 +1,8 @@
 // The table: the sizes of its four areas and the level, where a reference stands in it, and the part of it that is a matrix.
 //
 // Every call takes any sizes, any reference and any table.
+#![tactic(auto)]
+
 mod part;
 mod sizes;
 

@@ -4,7 +4,7 @@ ghost use Rattle.table.specs.Table.{allowed, size_of, discrete, offset, bad_star
 
 use level::MOST_LEVEL;
 
-#[derive(Drop)]
+#[derive(Clone, Copy)]
 pub struct Sizes {
     pub coils: u16,
     pub discretes: u16,

@@ -2,6 +2,8 @@
 // number.
 //
 // Each public call takes any numbers. Whoever prints many lines makes a number's label once and keeps it.
+#![tactic(auto)]
+
 ghost use Rattle.std.specs.Prelude.{◌+◌, ◌*◌, ◌%◌, ◌^◌, ◌<◌, ◌≡◌};
 ghost use Rattle.text.specs.Text.{label_of, line_fits};
 

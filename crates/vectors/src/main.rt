@@ -3,6 +3,8 @@
 //
 // A line has the name of the call, the numbers that are the case, and after a colon what comes back, all in decimal. A verdict is
 // its number and its place, 0 0 where the call is done.
+#![tactic(auto)]
+
 mod lent;
 mod parts;
 mod pointers;

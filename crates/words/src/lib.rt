@@ -2,6 +2,8 @@
 //
 // The call takes any bytes and any words. It does its work, or it refuses with document 01's number and place and changes
 // nothing.
+#![tactic(auto)]
+
 ghost use Rattle.std.specs.Prelude.{◌≡◌, ◌+◌, ◌*◌};
 ghost use Rattle.verdict.specs.Promise.{Leaves};
 ghost use Rattle.words.specs.Words.{to_words, filled};
@@ -9,7 +11,7 @@ ghost use Rattle.words.specs.Words.{to_words, filled};
 use verdict::Verdict;
 
 // How many words the bytes make, and whether an odd byte is left.
-#[derive(Drop)]
+#[derive(Clone, Copy)]
 pub struct Converted {
     pub verdict: Verdict,
     pub count: usize,

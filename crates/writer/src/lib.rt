@@ -2,6 +2,8 @@
 //
 // The call takes any sizes, any record and any buffer. It writes, or it refuses with document 01's number and place and changes
 // nothing.
+#![tactic(auto)]
+
 ghost use Rattle.std.specs.Prelude.{◌≡◌, length};
 ghost use Rattle.verdict.specs.Promise.{Leaves};
 ghost use Rattle.record.specs.Record.{spelled};
