@@ -10,6 +10,7 @@ use blocks::{Power, Worked, finished, refused};
 use matrix::{Answer, Operation};
 
 // The operation on the n words from s on and the n words from d on.
+#[inline(always)]
 pub(crate) fn logic(
     table: &mut [u16],
     operation: Operation,

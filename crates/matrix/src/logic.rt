@@ -31,6 +31,7 @@ pub(crate) fn combined(operation: Operation, s: u16, d: u16) -> u16
 
 // The destination's n words from d on become the operation on them and the n words of the source from s on: the last ones first where
 // the destination starts after the source.
+#[inline(always)]
 pub fn combine(table: &mut [u16], operation: Operation, s: usize, d: usize, n: usize) -> Verdict
     ensures { Leaves (combine_verdict (length table.old) s d n) (combine_table operation table.old s d n)
         result table.new }

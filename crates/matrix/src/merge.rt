@@ -15,6 +15,7 @@ pub(crate) enum Merge {
 }
 
 // The word that two words become.
+#[inline(always)]
 fn merged(merge: Merge, x: u16, y: u16) -> u16
     ensures { result ≡ word_with (merged merge x y) }
 {
@@ -34,6 +35,7 @@ fn merge_one(table: &mut [u16], merge: Merge, a: usize, b: usize, at: usize)
 }
 
 // The eight words from `at` on become those of the words from a and from b on, all read before any is written.
+#[inline(always)]
 fn merge_eight(table: &mut [u16], merge: Merge, a: usize, b: usize, at: usize)
     requires { (a + 8 ≤ length table.old) × (b + 8 ≤ length table.old) × (at + 8 ≤ length table.old) }
     ensures { Rewritten table.old (merged_at merge table.old a b at) at (at + 8) table.new }
@@ -52,6 +54,7 @@ fn merge_eight(table: &mut [u16], merge: Merge, a: usize, b: usize, at: usize)
 }
 
 // The n words from `at` on become those of the words from a and from b on, the first ones first: right where a and b are no less than `at`.
+#[inline(always)]
 pub(crate) fn merge_up(table: &mut [u16], merge: Merge, a: usize, b: usize, at: usize, n: usize)
     requires { (a + n ≤ length table.old) × (b + n ≤ length table.old) × (at + n ≤ length table.old) }
     ensures { (at ≤ a) × (at ≤ b)
@@ -70,6 +73,7 @@ pub(crate) fn merge_up(table: &mut [u16], merge: Merge, a: usize, b: usize, at: 
 }
 
 // The same, the last ones first: right where a and b are no more than `at`.
+#[inline(always)]
 pub(crate) fn merge_down(table: &mut [u16], merge: Merge, a: usize, b: usize, at: usize, n: usize)
     requires { (a + n ≤ length table.old) × (b + n ≤ length table.old) × (at + n ≤ length table.old) }
     ensures { (a ≤ at) × (b ≤ at)
