@@ -1,6 +1,6 @@
 # For scripts that source it, with $here the checkout's folder and a function `end STATUS LINE`: what is built of these sources.
-# A build stands in built/, in a folder named by the sources' checksum: the program bench, the words that start it, and the identity
-# of the kit that proved and built it. (Proofs are no part of the checksum: another proof leaves the program as it was, and proved.)
+# A build stands in built/, in a folder named by the sources' checksum: the program bench, and the identity of the kit that proved and
+# built it. (Proofs are no part of the checksum: another proof leaves the program as it was, and proved.)
 find_checksum() {
     sums=$(cd "$here" && sha256sum crates.txt crates/*/src/* crates/*/specs/* 2>/dev/null) ||
         end 3 'the sources cannot be read'
@@ -8,11 +8,11 @@ find_checksum() {
     checksum=${checksum%% *}
 }
 
-# Whether there is a build that fits; its folder and its start words. The first of these is the kit's own loader.
+# Whether there is a build that fits, and its folder.
 find_build() {
     find_checksum
     build=$here/built/$checksum
-    [ -x "$build/bench" ] && read -r start <"$build/start" && [ -x "${start%% *}" ]
+    [ -x "$build/bench" ]
 }
 
 version() {

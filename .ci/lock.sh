@@ -1,4 +1,4 @@
-# For scripts that source it in the checkout's folder: waits until no other script proves crates into target/, and keeps others
+# For scripts that source it in the checkout's folder: waits until no other script proves the crates, and keeps others
 # from it until descriptor 9 is closed.
 { mkdir -p -m 755 built && true >>built/lock; } 2>/dev/null || {
     echo 'run: the bench is not built yet, and this checkout cannot be written' >&2

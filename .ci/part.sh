@@ -1,5 +1,7 @@
 # For scripts that source it: `part COMMAND...` runs a part of the gate and adds to $passed how many things passed, the number
 # with which the part's last line begins. A part that fails, or ends without such a number, ends the script with status 1.
+# `edits_count COMMAND...` ends it so, too, where that part was `rt ci` and told of must-fail edits that are bad, which it lets pass:
+# their text stands no longer in their crate, so that they show nothing.
 passed=0
 room=$(mktemp -d)
 trap 'rm -rf "$room"' EXIT
@@ -11,6 +13,10 @@ part() { # COMMAND...
     count=$(sed -n '$s/^\([1-9][0-9]*\) .*/\1/p' "$room/log")
     [ -n "$count" ] || end_gate "ended without a count" "$@"
     passed=$((passed + count))
+}
+
+edits_count() { # COMMAND...
+    ! grep -q '^rt: ok.*, [0-9][0-9]* bad' "$room/log" || end_gate 'passed with must-fail edits that are bad' "$@"
 }
 
 end_gate() { # WHY COMMAND...

@@ -26,19 +26,18 @@ def file_of(name):
 
 
 def run_program(command, data):
-    """What the program prints, and a line that says how it failed, or that it told another end on descriptor 3 than its text has."""
-    told_as_error = ["sh", "-c", 'exec "$@" 3>&2', "sh"] + command
+    """What the program prints, and a line that says that it ended with another status than its text has, or what it said besides."""
     try:
-        done = subprocess.run(told_as_error, input=data, stdout=subprocess.PIPE, stderr=subprocess.PIPE, timeout=TIME_LIMIT)
+        done = subprocess.run(command, input=data, stdout=subprocess.PIPE, stderr=subprocess.PIPE, timeout=TIME_LIMIT)
     except subprocess.TimeoutExpired:
         return "(no end after %d seconds)\n" % TIME_LIMIT
     except OSError as error:
         return "(not started: %s)\n" % error.strerror
     text = done.stdout.decode("latin-1")
-    if done.returncode != 0:
+    if done.returncode != text.startswith("refused"):
         text += "(ended with status %d)\n" % done.returncode
-    if done.stderr != (b"r" if text.startswith("refused") else b"w"):
-        text += "(told %r)\n" % done.stderr
+    if done.stderr:
+        text += "(said %r)\n" % done.stderr
     return text
 
 

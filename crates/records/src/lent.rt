@@ -9,7 +9,7 @@ use reader::Reader;
 use verdict::Verdict;
 
 // What a reader says of the words that it was opened on, and of block k.
-#[derive(Clone, Copy)]
+#[derive(Drop)]
 pub(crate) struct Asked {
     pub opened: Opened,
     pub read: Read,
@@ -27,7 +27,7 @@ pub(crate) fn ask(words: &[u16], k: usize) -> Asked
 }
 
 // The verdict on a scan, and the list of records as the scan left it.
-#[derive(Clone, Copy)]
+#[derive(Drop)]
 pub(crate) struct Scanned {
     pub verdict: Verdict,
     pub list: [Outputs; 5],

@@ -12,6 +12,7 @@ mod print;
 
 use crate::lent::{ask, lend};
 use outputs::Outputs;
+use std::io;
 
 // CMPR of 40001 with 40003, to coil 1; MBIT, with power from the middle output of block 1; BROT of 40006; SENS, with power from
 // coil 1; COMP and AND of 40005.
@@ -45,51 +46,48 @@ fn words_of(count: u16) -> [u16; 96] {
     words[1] = 1;
     words[4] = 8;
     words[5] = count;
-    let mut i = 0;
-    while i < 90 {
+    for i in 0..90 {
         words[6 + i] = BLOCKS[i / 15][i % 15];
-        i += 1;
     }
     words
 }
 
 // The record of block k, or the refusal.
-fn block(words: &[u16], k: usize) -> bool {
+fn block(rt: &impl Print, words: &[u16], k: usize) -> io::Result<()> {
     let asked = ask(words, k);
     let read = asked.read;
-    print::named(b"block ", k) && print::text(b":") && print::read(read) && print::text(b"\n")
+    print::named(rt, b"block ", k)?;
+    print::text(rt, b":")?;
+    print::read(rt, read)?;
+    print::text(rt, b"\n")
 }
 
-fn blocks(words: &[u16]) -> bool {
-    let mut k = 0;
-    while k < 6 {
-        if !block(words, k) {
-            return false;
-        }
-        k += 1;
+fn blocks(rt: &impl Print, words: &[u16]) -> io::Result<()> {
+    for k in 0..6 {
+        block(rt, words, k)?;
     }
-    true
+    Ok(())
 }
 
 // What a reader opened on these words says of them, and of blocks 0 to 5.
-fn reader(words: &[u16]) -> bool {
+fn reader(rt: &impl Print, words: &[u16]) -> io::Result<()> {
     let asked = ask(words, 0);
-    print::named(b"words ", words.len())
-        && print::text(b":")
-        && print::opened(asked.opened)
-        && print::text(b"\n")
-        && blocks(words)
+    print::named(rt, b"words ", words.len())?;
+    print::text(rt, b":")?;
+    print::opened(rt, asked.opened)?;
+    print::text(rt, b"\n")?;
+    blocks(rt, words)
 }
 
 // One scan and its line.
-fn scan_once(name: &[u8], words: &[u16], table: &mut [u16; 9]) -> bool {
+fn scan_once(rt: &impl Print, name: &[u8], words: &[u16], table: &mut [u16; 9]) -> io::Result<()> {
     let scanned = lend(words, table, [BEFORE; 5]);
     let list = scanned.list;
-    print::text(name)
-        && print::refused(scanned.verdict)
-        && print::list(list)
-        && print::table(table)
-        && print::text(b"\n")
+    print::text(rt, name)?;
+    print::refused(rt, scanned.verdict)?;
+    print::list(rt, list)?;
+    print::table(rt, table)?;
+    print::text(rt, b"\n")
 }
 
 // The first n words, or all where there are not so many.
@@ -100,19 +98,20 @@ fn front(words: &[u16], n: usize) -> &[u16] {
     &words[0..n]
 }
 
-fn main() {
+fn main(rt: HostRuntime) -> io::Result<()> {
+    let rt = &rt;
     let four = words_of(4);
     let six = words_of(6);
     let words = front(&four, 66);
     let short = front(&four, 65);
     let mut table = IMAGE;
-    let written = reader(words)
-        && reader(short)
-        && reader(&LEVEL_2)
-        && scan_once(b"scan 1:", words, &mut table)
-        && scan_once(b"scan 2:", words, &mut table)
-        && scan_once(b"scan 3:", words, &mut table)
-        && scan_once(b"short words:", short, &mut table)
-        && scan_once(b"six blocks:", &six, &mut table)
-        && scan_once(b"level 2:", &LEVEL_2, &mut table);
+    reader(rt, words)?;
+    reader(rt, short)?;
+    reader(rt, &LEVEL_2)?;
+    scan_once(rt, b"scan 1:", words, &mut table)?;
+    scan_once(rt, b"scan 2:", words, &mut table)?;
+    scan_once(rt, b"scan 3:", words, &mut table)?;
+    scan_once(rt, b"short words:", short, &mut table)?;
+    scan_once(rt, b"six blocks:", &six, &mut table)?;
+    scan_once(rt, b"level 2:", &LEVEL_2, &mut table)
 }

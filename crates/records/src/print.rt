@@ -1,119 +1,123 @@
-// What the program prints of a record, of outputs, of a table and of a verdict. Each function answers whether all of it was
-// written.
+// What the program prints of a record, of outputs, of a table and of a verdict. Each function fails where a write does.
 use network::{Opened, Read};
 use outputs::Outputs;
 use record::{Block, Coils, Input, Inputs, Node};
+use std::io;
 use verdict::Verdict;
 
-pub(crate) fn text(s: &[u8]) -> bool {
-    io::write_all(1, s)
+pub(crate) fn text(rt: &impl Print, s: &[u8]) -> io::Result<()> {
+    rt.write_all(s)
 }
 
-fn number(n: usize) -> bool {
-    io::print_decimal(1, n as u64)
+fn number(rt: &impl Print, n: usize) -> io::Result<()> {
+    print!(rt; "{n}")
 }
 
 // A number after a name.
-pub(crate) fn named(name: &[u8], n: usize) -> bool {
-    text(name) && number(n)
+pub(crate) fn named(rt: &impl Print, name: &[u8], n: usize) -> io::Result<()> {
+    text(rt, name)?;
+    number(rt, n)
 }
 
 // Two numbers, each after a space.
-fn two(a: usize, b: usize) -> bool {
-    named(b" ", a) && named(b" ", b)
+fn two(rt: &impl Print, a: usize, b: usize) -> io::Result<()> {
+    named(rt, b" ", a)?;
+    named(rt, b" ", b)
 }
 
-fn refusal(verdict: Verdict) -> bool {
-    text(b" refused") && two(verdict.number as usize, verdict.place)
+fn refusal(rt: &impl Print, verdict: Verdict) -> io::Result<()> {
+    text(rt, b" refused")?;
+    two(rt, verdict.number as usize, verdict.place)
 }
 
-fn node(name: &[u8], node: Node) -> bool {
-    text(name) && two(node.class as usize, node.number as usize)
+fn node(rt: &impl Print, name: &[u8], node: Node) -> io::Result<()> {
+    text(rt, name)?;
+    two(rt, node.class as usize, node.number as usize)
 }
 
-fn input(input: Input) -> bool {
-    two(input.code as usize, input.number as usize)
+fn input(rt: &impl Print, input: Input) -> io::Result<()> {
+    two(rt, input.code as usize, input.number as usize)
 }
 
-fn inputs(inputs: Inputs) -> bool {
-    text(b", inputs") && input(inputs.top) && input(inputs.middle) && input(inputs.bottom)
+fn inputs(rt: &impl Print, inputs: Inputs) -> io::Result<()> {
+    text(rt, b", inputs")?;
+    input(rt, inputs.top)?;
+    input(rt, inputs.middle)?;
+    input(rt, inputs.bottom)
 }
 
-fn coils(coils: Coils) -> bool {
-    named(b", coils ", coils.top as usize) && two(coils.middle as usize, coils.bottom as usize)
+fn coils(rt: &impl Print, coils: Coils) -> io::Result<()> {
+    named(rt, b", coils ", coils.top as usize)?;
+    two(rt, coils.middle as usize, coils.bottom as usize)
 }
 
-fn record(block: Block) -> bool {
-    named(b" kind ", block.kind as usize)
-        && named(b", n ", block.n as usize)
-        && node(b", top", block.top)
-        && node(b", middle", block.middle)
-        && inputs(block.inputs)
-        && coils(block.coils)
+fn record(rt: &impl Print, block: Block) -> io::Result<()> {
+    named(rt, b" kind ", block.kind as usize)?;
+    named(rt, b", n ", block.n as usize)?;
+    node(rt, b", top", block.top)?;
+    node(rt, b", middle", block.middle)?;
+    inputs(rt, block.inputs)?;
+    coils(rt, block.coils)
 }
 
 // A record, or a refusal.
-pub(crate) fn read(read: Read) -> bool {
+pub(crate) fn read(rt: &impl Print, read: Read) -> io::Result<()> {
     match read {
-        Read::Record(block) => record(block),
-        Read::Refused(verdict) => refusal(verdict),
+        Read::Record(block) => record(rt, block),
+        Read::Refused(verdict) => refusal(rt, verdict),
     }
 }
 
 // The refusal, where there is one, and a comma after it.
-pub(crate) fn refused(verdict: Verdict) -> bool {
+pub(crate) fn refused(rt: &impl Print, verdict: Verdict) -> io::Result<()> {
     if verdict.number == 0 {
-        return true;
+        return Ok(());
     }
-    refusal(verdict) && text(b",")
+    refusal(rt, verdict)?;
+    text(rt, b",")
 }
 
 // What an opening found: the blocks, or a refusal.
-pub(crate) fn opened(opened: Opened) -> bool {
-    refused(opened.verdict()) && named(b" blocks ", opened.count() as usize)
+pub(crate) fn opened(rt: &impl Print, opened: Opened) -> io::Result<()> {
+    refused(rt, opened.verdict())?;
+    named(rt, b" blocks ", opened.count() as usize)
 }
 
 // Three outputs, 1 for power and 0 for none, the count, and a comma after them.
-fn outputs(outputs: Outputs) -> bool {
-    named(b" ", outputs.top as usize)
-        && two(outputs.middle as usize, outputs.bottom as usize)
-        && named(b" ", outputs.count as usize)
-        && text(b",")
+fn outputs(rt: &impl Print, outputs: Outputs) -> io::Result<()> {
+    named(rt, b" ", outputs.top as usize)?;
+    two(rt, outputs.middle as usize, outputs.bottom as usize)?;
+    named(rt, b" ", outputs.count as usize)?;
+    text(rt, b",")
 }
 
-fn entries(list: [Outputs; 5]) -> bool {
-    let mut i = 0;
-    while i < 5 {
-        if !outputs(list[i]) {
-            return false;
-        }
-        i += 1;
+fn entries(rt: &impl Print, list: [Outputs; 5]) -> io::Result<()> {
+    for i in 0..5 {
+        outputs(rt, list[i])?;
     }
-    true
+    Ok(())
 }
 
 // The entries of a list.
-pub(crate) fn list(list: [Outputs; 5]) -> bool {
-    text(b" list") && entries(list)
+pub(crate) fn list(rt: &impl Print, list: [Outputs; 5]) -> io::Result<()> {
+    text(rt, b" list")?;
+    entries(rt, list)
 }
 
 // A word, in hex.
-fn word(w: u16) -> bool {
-    text(b" ") && io::print_hex(1, w as u64, 4)
+fn word(rt: &impl Print, w: u16) -> io::Result<()> {
+    print!(rt; " {w:04x}")
 }
 
-fn words(table: &[u16]) -> bool {
-    let mut i = 0;
-    while i < table.len() {
-        if !word(table[i]) {
-            return false;
-        }
-        i += 1;
+fn words(rt: &impl Print, table: &[u16]) -> io::Result<()> {
+    for w in table {
+        word(rt, *w)?;
     }
-    true
+    Ok(())
 }
 
 // The words of a table.
-pub(crate) fn table(table: &[u16]) -> bool {
-    text(b" table") && words(table)
+pub(crate) fn table(rt: &impl Print, table: &[u16]) -> io::Result<()> {
+    text(rt, b" table")?;
+    words(rt, table)
 }

@@ -12,15 +12,18 @@ mod print;
 mod records;
 mod words;
 
-fn main() {
-    let written = print::text(b"call, case: what comes back")
-        && pointers::all()
-        && parts::small()
-        && parts::large()
-        && parts::limits()
-        && lent::all()
-        && records::rounds()
-        && records::writer()
-        && records::reader()
-        && print::text(b"\n");
+use std::io;
+
+fn main(rt: HostRuntime) -> io::Result<()> {
+    let rt = &rt;
+    print::text(rt, b"call, case: what comes back")?;
+    pointers::all(rt)?;
+    parts::small(rt)?;
+    parts::large(rt)?;
+    parts::limits(rt)?;
+    lent::all(rt)?;
+    records::rounds(rt)?;
+    records::writer(rt)?;
+    records::reader(rt)?;
+    print::text(rt, b"\n")
 }

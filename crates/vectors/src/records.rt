@@ -3,6 +3,7 @@ use crate::print;
 use crate::words::{front, front_mut};
 use network::Read;
 use record::{Block, Coils, Input, Inputs, Node};
+use std::io;
 use table::Sizes;
 
 // Areas at a level.
@@ -101,58 +102,73 @@ fn fields(b: Block) -> [u16; 15] {
 }
 
 // The record of block k of the first words, or the refusal.
-fn read(words: &[u16; 36], end: u16, k: u16) -> bool {
+fn read(rt: &impl Print, words: &[u16; 36], end: u16, k: u16) -> io::Result<()> {
     match reader::record_of(front(words, end), k as usize) {
-        Read::Record(block) => print::numbers(b": record", &fields(block)),
-        Read::Refused(verdict) => print::verdict(verdict),
+        Read::Record(block) => print::numbers(rt, b": record", &fields(block)),
+        Read::Refused(verdict) => print::verdict(rt, verdict),
     }
 }
 
 // What the writer answers, and the lent words after it.
-fn written(sizes: Sizes, k: u16, block: Block, buffer: &mut [u16]) -> bool {
-    print::verdict(writer::write_record(sizes, k as usize, block, buffer))
-        && print::numbers(b" buffer", buffer)
+fn written(
+    rt: &impl Print,
+    sizes: Sizes,
+    k: u16,
+    block: Block,
+    buffer: &mut [u16],
+) -> io::Result<()> {
+    print::verdict(rt, writer::write_record(sizes, k as usize, block, buffer))?;
+    print::numbers(rt, b" buffer", buffer)
 }
 
 // A record written into a network of one block, and read back.
-fn round(row: [u16; 15]) -> bool {
+fn round(rt: &impl Print, row: [u16; 15]) -> io::Result<()> {
     let mut words = one_block();
-    print::numbers(b"\nrecord", &row)
-        && written(areas(1), 1, block_of(row), &mut words[6..21])
-        && read(&words, 21, 1)
+    print::numbers(rt, b"\nrecord", &row)?;
+    written(rt, areas(1), 1, block_of(row), &mut words[6..21])?;
+    read(rt, &words, 21, 1)
 }
 
 // The same where the level is among the words.
-fn round_at(level: u16, row: [u16; 15]) -> bool {
+fn round_at(rt: &impl Print, level: u16, row: [u16; 15]) -> io::Result<()> {
     let mut words = one_block_at(level);
-    print::numbers(b"\nrecord at level", &[level])
-        && print::numbers(b"", &row)
-        && written(areas(level), 1, block_of(row), &mut words[7..22])
-        && read(&words, 22, 1)
+    print::numbers(rt, b"\nrecord at level", &[level])?;
+    print::numbers(rt, b"", &row)?;
+    written(rt, areas(level), 1, block_of(row), &mut words[7..22])?;
+    read(rt, &words, 22, 1)
 }
 
-pub(crate) fn rounds() -> bool {
+pub(crate) fn rounds(rt: &impl Print) -> io::Result<()> {
     // AND, CMPR, MBIT, SENS, and one of length 0.
-    round([1, 15, 1, 17, 0, 33, 2, 512, 3, 1, 4, 256, 1, 2, 3])
-        && round([5, 96, 3, 1, 4, 724, 5, 1, 0, 0, 1, 0, 0, 511, 512])
-        && round([6, 255, 9, 999, 4, 566, 1, 0, 1, 0, 1, 0, 7, 7, 7])
-        && round([7, 255, 9, 0, 4, 566, 1, 0, 5, 255, 4, 254, 0, 0, 0])
-        && round([5, 0, 3, 1, 4, 724, 5, 1, 0, 0, 0, 0, 0, 0, 0])
-        // The length and the constant that Level 2 takes and Level 1 does not, and one more; levels that are none.
-        && round_at(1, [7, 255, 9, 999, 4, 566, 1, 0, 0, 0, 0, 0, 0, 0, 0])
-        && round_at(1, [7, 256, 9, 999, 4, 565, 1, 0, 0, 0, 0, 0, 0, 0, 0])
-        && round_at(1, [7, 255, 9, 1000, 4, 566, 1, 0, 0, 0, 0, 0, 0, 0, 0])
-        && round_at(2, [7, 600, 9, 9600, 4, 221, 1, 0, 0, 0, 0, 0, 0, 0, 0])
-        && round_at(2, [7, 601, 9, 9600, 4, 220, 1, 0, 0, 0, 0, 0, 0, 0, 0])
-        && round_at(2, [7, 600, 9, 9601, 4, 221, 1, 0, 0, 0, 0, 0, 0, 0, 0])
-        && round_at(2, [5, 101, 3, 1, 4, 719, 1, 0, 0, 0, 0, 0, 0, 0, 0])
-        && round_at(0, [7, 1, 9, 0, 4, 1, 1, 0, 0, 0, 0, 0, 0, 0, 0])
-        && round_at(3, [7, 1, 9, 0, 4, 1, 1, 0, 0, 0, 0, 0, 0, 0, 0])
+    round(rt, [1, 15, 1, 17, 0, 33, 2, 512, 3, 1, 4, 256, 1, 2, 3])?;
+    round(rt, [5, 96, 3, 1, 4, 724, 5, 1, 0, 0, 1, 0, 0, 511, 512])?;
+    round(rt, [6, 255, 9, 999, 4, 566, 1, 0, 1, 0, 1, 0, 7, 7, 7])?;
+    round(rt, [7, 255, 9, 0, 4, 566, 1, 0, 5, 255, 4, 254, 0, 0, 0])?;
+    round(rt, [5, 0, 3, 1, 4, 724, 5, 1, 0, 0, 0, 0, 0, 0, 0])?;
+    // The length and the constant that Level 2 takes and Level 1 does not, and one more; levels that are none.
+    round_at(rt, 1, [7, 255, 9, 999, 4, 566, 1, 0, 0, 0, 0, 0, 0, 0, 0])?;
+    round_at(rt, 1, [7, 256, 9, 999, 4, 565, 1, 0, 0, 0, 0, 0, 0, 0, 0])?;
+    round_at(rt, 1, [7, 255, 9, 1000, 4, 566, 1, 0, 0, 0, 0, 0, 0, 0, 0])?;
+    round_at(rt, 2, [7, 600, 9, 9600, 4, 221, 1, 0, 0, 0, 0, 0, 0, 0, 0])?;
+    round_at(rt, 2, [7, 601, 9, 9600, 4, 220, 1, 0, 0, 0, 0, 0, 0, 0, 0])?;
+    round_at(rt, 2, [7, 600, 9, 9601, 4, 221, 1, 0, 0, 0, 0, 0, 0, 0, 0])?;
+    round_at(rt, 2, [5, 101, 3, 1, 4, 719, 1, 0, 0, 0, 0, 0, 0, 0, 0])?;
+    round_at(rt, 0, [7, 1, 9, 0, 4, 1, 1, 0, 0, 0, 0, 0, 0, 0, 0])?;
+    round_at(rt, 3, [7, 1, 9, 0, 4, 1, 1, 0, 0, 0, 0, 0, 0, 0, 0])
 }
 
 // The writer on a CMPR of 40001 in a table of so many words of coils and three holding registers, at a level: k, how many words are
 // lent, the number of the pointer, the code and the number of the top input.
-fn write(coils: u16, level: u16, k: u16, lent: u16, pointer: u16, code: u16, number: u16) -> bool {
+fn write(
+    rt: &impl Print,
+    coils: u16,
+    level: u16,
+    k: u16,
+    lent: u16,
+    pointer: u16,
+    code: u16,
+    number: u16,
+) -> io::Result<()> {
     let sizes = Sizes {
         coils,
         discretes: 0,
@@ -162,44 +178,49 @@ fn write(coils: u16, level: u16, k: u16, lent: u16, pointer: u16, code: u16, num
     };
     let block = block_of([5, 1, 4, 1, 4, pointer, code, number, 0, 0, 0, 0, 0, 0, 0]);
     let mut buffer = [7; 16];
-    print::numbers(b"\nwriter", &[coils, level, k, lent, pointer, code, number])
-        && written(sizes, k, block, front_mut(&mut buffer, lent))
+    print::numbers(
+        rt,
+        b"\nwriter",
+        &[coils, level, k, lent, pointer, code, number],
+    )?;
+    written(rt, sizes, k, block, front_mut(&mut buffer, lent))
 }
 
-pub(crate) fn writer() -> bool {
+pub(crate) fn writer(rt: &impl Print) -> io::Result<()> {
     // The order of the writer's tests: sizes, k, the 15 words, the buffer.
-    write(129, 1, 0, 14, 3, 1, 0)
-        && write(0, 0, 0, 14, 3, 1, 0)
-        && write(0, 3, 0, 14, 3, 1, 0)
-        && write(0, 3, 1, 15, 2, 1, 0)
-        && write(0, 2, 1, 15, 2, 1, 0)
-        && write(0, 1, 0, 14, 3, 1, 0)
-        && write(0, 1, 129, 14, 3, 1, 0)
-        && write(0, 1, 1, 14, 3, 1, 0)
-        && write(0, 1, 1, 14, 2, 1, 0)
-        && write(0, 1, 1, 15, 2, 1, 0)
-        && write(0, 1, 1, 16, 2, 1, 0)
-        && write(0, 1, 128, 0, 2, 1, 0)
-        // A record that reads an earlier block: k says how many are earlier.
-        && write(0, 1, 1, 15, 2, 6, 1)
-        && write(0, 1, 2, 15, 2, 6, 1)
-        && write(0, 1, 128, 15, 2, 8, 127)
-        && write(0, 1, 128, 15, 2, 8, 128)
+    write(rt, 129, 1, 0, 14, 3, 1, 0)?;
+    write(rt, 0, 0, 0, 14, 3, 1, 0)?;
+    write(rt, 0, 3, 0, 14, 3, 1, 0)?;
+    write(rt, 0, 3, 1, 15, 2, 1, 0)?;
+    write(rt, 0, 2, 1, 15, 2, 1, 0)?;
+    write(rt, 0, 1, 0, 14, 3, 1, 0)?;
+    write(rt, 0, 1, 129, 14, 3, 1, 0)?;
+    write(rt, 0, 1, 1, 14, 3, 1, 0)?;
+    write(rt, 0, 1, 1, 14, 2, 1, 0)?;
+    write(rt, 0, 1, 1, 15, 2, 1, 0)?;
+    write(rt, 0, 1, 1, 16, 2, 1, 0)?;
+    write(rt, 0, 1, 128, 0, 2, 1, 0)?;
+    // A record that reads an earlier block: k says how many are earlier.
+    write(rt, 0, 1, 1, 15, 2, 6, 1)?;
+    write(rt, 0, 1, 2, 15, 2, 6, 1)?;
+    write(rt, 0, 1, 128, 15, 2, 8, 127)?;
+    write(rt, 0, 1, 128, 15, 2, 8, 128)
 }
 
 // The reader: how many blocks, how many words are lent, and k.
-fn ask(blocks: u16, end: u16, k: u16) -> bool {
+fn ask(rt: &impl Print, blocks: u16, end: u16, k: u16) -> io::Result<()> {
     let mut words = WORDS;
     words[5] = blocks;
-    print::numbers(b"\nreader", &[blocks, end, k]) && read(&words, end, k)
+    print::numbers(rt, b"\nreader", &[blocks, end, k])?;
+    read(rt, &words, end, k)
 }
 
-pub(crate) fn reader() -> bool {
+pub(crate) fn reader(rt: &impl Print) -> io::Result<()> {
     // k at the edges, words cut short, and no blocks.
-    ask(2, 36, 0)
-        && ask(2, 36, 1)
-        && ask(2, 36, 2)
-        && ask(2, 36, 3)
-        && ask(2, 35, 3)
-        && ask(0, 6, 1)
+    ask(rt, 2, 36, 0)?;
+    ask(rt, 2, 36, 1)?;
+    ask(rt, 2, 36, 2)?;
+    ask(rt, 2, 36, 3)?;
+    ask(rt, 2, 35, 3)?;
+    ask(rt, 0, 6, 1)
 }

@@ -1,2 +1,0 @@
--- The law by which a local array is lent.
-pub mod Lending
