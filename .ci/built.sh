@@ -12,7 +12,7 @@ find_checksum() {
 find_build() {
     find_checksum
     build=$here/built/$checksum
-    [ -x "$build/bench" ]
+    [ -x "$build/bench" ] && [ -s "$build/bench" ]
 }
 
 version() {
