@@ -22,7 +22,7 @@ use Rattle.blocks.specs.declared.Power.{Power}
 use Rattle.blocks.specs.declared.Outputs.{Outputs}
 use Rattle.blocks.specs.Kind.{kind_of}
 use Rattle.blocks.specs.View.{View, first_word}
-use Rattle.blocks.specs.Effect.{Change, Effect, idle, zeroed, starts_at, found, compare}
+use Rattle.blocks.specs.Effect.{Effect, idle, zeroed, starts_at, found, compare}
 use Rattle.blocks.specs.Effect.Change.{stays}
 use Rattle.blocks.specs.Work.{pointer_node, matrix_put, change_put, one_word, effect_on, block_outputs}
 use Rattle.blocks.proofs.Written.{coils_spare_word}
@@ -39,7 +39,7 @@ use Rattle.rounds.proofs.Demand3.{N, pointer, Same, one_count, turns_along}
 use Rattle.rounds.proofs.Finding.{view_found, compares_by, starts_from}
 use Rattle.rounds.proofs.Spending.{reach, a_round_spends}
 use Rattle.rounds.proofs.Called.{in_turn_same, scanning, taken, records_show, numbers_taken, numbers_show}
-use Rattle.rounds.proofs.Printed.{good, scanning as file_scanning, said_count, said_at, said_part, counted}
+use Rattle.rounds.proofs.Printed.{scanning as file_scanning, said_count, said_at, said_part, counted}
 
 -- ---- what a search that starts somewhere makes of a compare
 module _ (n : ℕ) (v : View) (start : ℕ) where

@@ -30,7 +30,7 @@ use Rattle.blocks.specs.Work.{pointer_node, matrix_put, change_put, one_word, ef
 use Rattle.blocks.proofs.Puts.{run_bits, bit_outside}
 use Rattle.blocks.proofs.Written.{coils_spare_word}
 use Rattle.blocks.specs.Answer.{no_outputs}
-use Rattle.scan.specs.Scan.{step, scanned}
+use Rattle.scan.specs.Scan.{scanned}
 use Rattle.rounds.specs.Demand3.{visit, power_at, source_in, matrix_in, register_index, register_in, source_found, matrix_found, after_step, done_by, report, SameBits, Steady, Scanning}
 use Rattle.rounds.specs.Counts.{count}
 use Rattle.scan.proofs.Kept.{exact_after}

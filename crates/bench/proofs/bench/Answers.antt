@@ -1,16 +1,15 @@
 -- `bench::bench` meets its contract: a refusal's place is a word, an accepted file begins its run on a state of its own, and the start
 -- refuses as the check does. Assumes nothing.
-use Rattle.std.proofs.Common.{rules, arith, ◌≡◌, ◌≤◌, ◌+◌, ◌*◌, ◌∙◌, ℕ, Bool, true, false, cond, length, replicate, sym, ap, subst, length-take-le, OnOk, OnErr}
+use Rattle.std.proofs.Common.{arith, ◌≡◌, ◌≤◌, ◌+◌, ◌*◌, ◌∙◌, ℕ, Bool, cond, length, replicate, sym, ap, subst, length-take-le, OnOk, OnErr}
 use Rattle.std.specs.Prelude.{Result, Ok, Err}
 use Rattle.bench.specs.declared.Lost.{Lost}
 use mathlib.Core.Path.{ap₂}
 use mathlib.Core.Logic.{inl, inr}
-use native.Mathlib.Nat.{mul-le-mul_right}
 use borrow.Author.Tests.{eq-eqb, ne_eqb}
 use lib.ListN.{length-replicate}
 use Rattle.verdict.specs.declared.Verdict.{Verdict}
 use Rattle.run.specs.Calls.{most_state}
-use Rattle.run.proofs.Begun.{verdict_is, place_small, accepted_even, words_are_its, scans_are_its, count_is_its, few_blocks, few_scans, state_fits}
+use Rattle.run.proofs.Begun.{verdict_is, place_small, accepted_even, words_are_its, scans_are_its, count_is_its, few_blocks, state_fits}
 use Rattle.bench.specs.Told.{told_written, told_refused, IsLost, Told}
 use Rattle.bench.proofs.bench.Goals as goal
 

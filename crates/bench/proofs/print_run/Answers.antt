@@ -1,5 +1,5 @@
 -- `bench::print_run` meets its contract: every call goes further, so that the loop ends past the last visit. Assumes nothing.
-use Rattle.std.proofs.Common.{rules, arith, ◌≡◌, ◌≤◌, ◌∙◌, length, sym, length-take-le}
+use Rattle.std.proofs.Common.{arith, ◌∙◌, length, sym, length-take-le}
 use Rattle.run.proofs.Paging.{goes_further, bytes_fit}
 use Rattle.bench.proofs.print_run.Goals as goal
 

@@ -1,7 +1,6 @@
 -- `inputs::contact` meets its contract. Assumes nothing.
 use mathlib.Core.Path.{ap, ◌∙◌}
 use Prim.Native.Nat.{ℕ, ◌-◌, ◌+◌, ◌%◌}
-use borrow.Author.Rules.{rules}
 use Rattle.bits.specs.Bit.{of}
 use Rattle.inputs.proofs.Wired.{no_number, past_words, contact_bit}
 use Rattle.inputs.proofs.contact.Goals as goal

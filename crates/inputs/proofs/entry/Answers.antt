@@ -1,6 +1,5 @@
 -- `inputs::entry` meets its contract. Assumes nothing.
 use native.Mathlib.Omega.{arith}
-use borrow.Author.Rules.{rules}
 use Rattle.inputs.proofs.entry.Goals as goal
 
 pub returns-then-number-eq0 : goal.returns-then-number-eq0

@@ -1,7 +1,6 @@
 -- `inputs::output` meets its contract. Assumes nothing.
 use mathlib.Core.Path.{ap, ◌∙◌}
 use Prim.Native.Nat.{ℕ}
-use borrow.Author.Rules.{rules}
 use lib.ListN.{get_or}
 use Rattle.bits.specs.Bit.{of}
 use Rattle.inputs.proofs.output.Goals as goal

@@ -1,5 +1,4 @@
 -- `inputs::power_on` meets its contract. Assumes nothing.
-use borrow.Author.Rules.{rules}
 use Rattle.inputs.proofs.power_on.Goals as goal
 
 pub returns : goal.returns

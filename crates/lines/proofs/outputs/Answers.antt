@@ -4,7 +4,6 @@ use Prim.Native.Nat.{◌≤◌}
 use native.Mathlib.Omega.{arith}
 use mir.Val.{bool_byte}
 use Rattle.text.proofs.Labels.{outputs_word}
-use borrow.Author.Rules.{rules}
 use Rattle.lines.proofs.outputs.Goals as goal
 
 small : (a : Bool) → bool_byte a ≤ 1

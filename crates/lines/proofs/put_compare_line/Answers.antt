@@ -3,13 +3,11 @@ use mathlib.Core.Path.{◌≡◌, sym, ◌∙◌}
 use mathlib.Core.Bool.{true}
 use Prim.Native.Nat.{◌+◌, ◌≤◌}
 use native.Mathlib.Omega.{arith}
-use borrow.Author.Tests.{not-true, not-false}
 use lib.ListN.{length}
 use Rattle.text.specs.Text.{decimal, labelled_line, longest_line, line_fits}
 use Rattle.text.proofs.Putting.{put_long}
 use Rattle.text.proofs.Labels.{labelled_put}
 use Rattle.text.proofs.Laying.{decimal_few, room_left, put_laid, not_laid}
-use borrow.Author.Rules.{rules}
 use Rattle.lines.proofs.put_compare_line.Goals as goal
 use Rattle.lines.proofs.put_compare_line.Goals.{Else-not-line_fits}
 

@@ -2,7 +2,6 @@
 use native.Mathlib.Omega.{arith}
 use Rattle.text.proofs.Putting.{over_long, over_few, put_as}
 use Rattle.text.proofs.Labels.{label_few, front_put}
-use borrow.Author.Rules.{rules}
 use Rattle.lines.proofs.put_front.Goals as goal
 
 pub put_label-next-requires-2 : goal.put_label-next-requires-2

@@ -1,5 +1,4 @@
 -- `lines::put_label` meets its contract. Assumes nothing.
-use borrow.Author.Rules.{rules}
 use native.Mathlib.Omega.{arith}
 use Prim.Native.Nat.{◌/◌, ◌%◌, ◌^◌}
 use Rattle.text.proofs.Labels.{low_over}

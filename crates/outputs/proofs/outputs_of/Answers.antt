@@ -1,6 +1,5 @@
 -- `outputs::outputs_of` meets its contract. Assumes nothing.
 use Prim.Native.Nat.{◌/◌}
-use borrow.Author.Rules.{rules}
 use lib.ListN.{get_or}
 use Rattle.outputs.proofs.outputs_of.Goals as goal
 

@@ -1,7 +1,6 @@
 -- `scan::run_one` meets its contract. Assumes nothing.
 use mathlib.Core.Path.{sym, ap, ◌∙◌}
 use native.Mathlib.Omega.{arith}
-use borrow.Author.Rules.{rules}
 use lib.ListN.{set}
 use lib.Seq.{length-take-le}
 use Rattle.network.specs.Network.{areas_only}

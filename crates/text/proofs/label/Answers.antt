@@ -1,5 +1,4 @@
 -- `text::label` meets its contract: each of the five cases has as many digits as the number takes. Assumes nothing.
-use borrow.Author.Rules.{rules}
 use native.Mathlib.Omega.{arith}
 use Prim.Native.Nat.{◌/◌}
 use Rattle.text.proofs.Putting.{places_1, places_2, places_3, places_4, places_5}

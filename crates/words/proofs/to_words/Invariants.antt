@@ -1,8 +1,6 @@
 -- `words::to_words` meets its contract. The loop keeps `Filling`: the words passed stand at the front. Assumes nothing.
-use borrow.Author.Rules.{rules}
-use native.Mathlib.Omega.{arith}
 use Prim.Native.Nat.{◌-◌}
-use Rattle.words.proofs.Filling.{Filling, none_yet, same_long, one_more, filled_done, no_room}
+use Rattle.words.proofs.Filling.{Filling}
 use Rattle.words.proofs.to_words.Given as goal
 
 abbrev pub invariant-loop-k : goal.invariant-loop-k

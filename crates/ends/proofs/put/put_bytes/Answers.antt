@@ -1,9 +1,7 @@
 -- `ends::put::put_bytes` meets its contract. The loop keeps that the first i bytes are put. Assumes nothing.
 use native.Mathlib.Omega.{arith}
-use Prim.Native.Nat.{◌+◌, ◌-◌, ◌≤◌}
-use lib.ListN.{length, take}
+use lib.ListN.{length}
 use lib.Seq.{take_all}
-use Rattle.text.specs.Inner.{Put}
 use Rattle.text.proofs.Putting.{put_long, put_begin, put_next, put_as}
 use Rattle.ends.proofs.put.put_bytes.Goals as goal
 

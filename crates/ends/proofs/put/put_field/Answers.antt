@@ -1,5 +1,4 @@
 -- `ends::put::put_field` meets its contract: a label without its space is the digits of its number. Assumes nothing.
-use borrow.Author.Rules.{rules}
 use native.Mathlib.Omega.{arith}
 use Rattle.text.proofs.Laying.{places_few}
 use Rattle.text.proofs.Putting.{put_long, put_one, put_then, put_as}

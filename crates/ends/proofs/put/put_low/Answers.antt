@@ -1,13 +1,10 @@
 -- `ends::put::put_low` meets its contract. The loop keeps that the first i bytes are put, and what is left above them. Assumes
 -- nothing.
-use borrow.Author.Rules.{rules}
 use native.Mathlib.Omega.{arith}
 use native.Mathlib.Nat.{div-one}
 use mathlib.Core.Path.{◌≡◌, sym, ap}
-use Prim.Native.Nat.{ℕ, ◌+◌, ◌-◌, ◌/◌, ◌%◌, ◌^◌, ◌≤◌}
-use lib.ListN.{length}
+use Prim.Native.Nat.{ℕ, ◌%◌}
 use Rattle.text.specs.Text.{low}
-use Rattle.text.specs.Inner.{Put}
 use Rattle.text.proofs.Putting.{put_long, put_begin, put_more, put_as}
 use Rattle.text.proofs.Labels.{low_more, low_left}
 use Rattle.ends.proofs.put.put_low.Goals as goal

@@ -1,5 +1,4 @@
 -- `kinds::block::work` meets its contract, kind by kind. Assumes nothing.
-use borrow.Author.Rules.{rules}
 use Rattle.blocks.specs.Kind.{kind_of}
 use Rattle.blocks.specs.View.{seen_by}
 use Rattle.blocks.specs.Effect.{effect_of}

@@ -1,6 +1,5 @@
 -- `kinds::whole::rotate` meets its contract: of both answers the bit is the one that left. Assumes nothing.
 use mathlib.Core.Path.{◌≡◌, sym, ap, ◌∙◌}
-use borrow.Author.Rules.{rules}
 use lib.ListN.{length}
 use Rattle.runs.specs.Run.{fault, Accepted}
 use Rattle.bits.specs.Bit.{longest_whole}

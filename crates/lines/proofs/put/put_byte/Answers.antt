@@ -1,5 +1,4 @@
 -- `lines::put::put_byte` meets its contract. Assumes nothing.
-use borrow.Author.Rules.{rules}
 use Rattle.text.proofs.Putting.{put_one}
 use Rattle.lines.proofs.put.put_byte.Goals as goal
 

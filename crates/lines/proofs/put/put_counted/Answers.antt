@@ -4,7 +4,6 @@ use native.Mathlib.Omega.{arith}
 use Rattle.text.specs.Text.{decimal, line_end}
 use Rattle.text.proofs.Putting.{put_as}
 use Rattle.text.proofs.Labels.{end_put}
-use borrow.Author.Rules.{rules}
 use Rattle.lines.proofs.put.put_counted.Goals as goal
 
 pub returns-then-pointer-count : goal.returns-then-pointer-count

@@ -1,5 +1,4 @@
 -- `lines::put::put_digit` meets its contract. Assumes nothing.
-use borrow.Author.Rules.{rules}
 use Rattle.text.specs.Text.{digits}
 use Rattle.lines.proofs.put.put_digit.Goals as goal
 

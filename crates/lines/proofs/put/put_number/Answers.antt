@@ -4,7 +4,6 @@ use Prim.Native.Nat.{◌/◌}
 use native.Mathlib.Omega.{arith}
 use Rattle.text.specs.Text.{digits}
 use Rattle.text.proofs.Putting.{put_as, places_1, places_2, places_3, places_4, places_5, put_two_more, put_decimal}
-use borrow.Author.Rules.{rules}
 use Rattle.lines.proofs.put.put_number.Goals as goal
 
 pub returns-then-n-lt10 : goal.returns-then-n-lt10

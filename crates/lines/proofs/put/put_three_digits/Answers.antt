@@ -1,6 +1,5 @@
 -- `lines::put::put_three_digits` meets its contract. Assumes nothing.
 use Rattle.text.proofs.Putting.{put_two_more}
-use borrow.Author.Rules.{rules}
 use Rattle.lines.proofs.put.put_three_digits.Goals as goal
 
 pub returns : goal.returns

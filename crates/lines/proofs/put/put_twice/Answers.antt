@@ -3,7 +3,6 @@ use native.Mathlib.Omega.{arith}
 use Rattle.text.specs.Text.{decimal}
 use Rattle.text.proofs.Putting.{places_1, places_2, places_3, put_decimal}
 use Rattle.text.proofs.Labels.{end_put}
-use borrow.Author.Rules.{rules}
 use Rattle.lines.proofs.put.put_twice.Goals as goal
 
 pub returns-then-n-lt10 : goal.returns-then-n-lt10

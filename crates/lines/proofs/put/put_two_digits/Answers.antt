@@ -1,5 +1,4 @@
 -- `lines::put::put_two_digits` meets its contract. Assumes nothing.
-use borrow.Author.Rules.{rules}
 use Rattle.text.specs.Text.{digits}
 use Rattle.text.proofs.Putting.{put_then}
 use Rattle.lines.proofs.put.put_two_digits.Goals as goal

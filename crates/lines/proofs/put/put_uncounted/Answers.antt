@@ -3,7 +3,6 @@ use mathlib.Core.Path.{refl}
 use native.Mathlib.Omega.{arith}
 use Rattle.text.specs.Text.{places, digits, decimal}
 use Rattle.text.proofs.Putting.{put_then, put_as}
-use borrow.Author.Rules.{rules}
 use Rattle.lines.proofs.put.put_uncounted.Goals as goal
 
 pub returns : goal.returns

@@ -4,7 +4,6 @@ use Prim.Native.Nat.{ℕ, ◌+◌, ◌/◌}
 use Rattle.table.specs.declared.sizes.Sizes.{Sizes}
 use Rattle.plan.specs.Plan.{look_of}
 use Rattle.plan.proofs.Looks.{by_code, code_is, code_rest}
-use borrow.Author.Rules.{rules}
 use Rattle.plan.proofs.steps.look_of.Goals as goal
 use Rattle.plan.proofs.steps.look_of.Goals.{After-total}
 

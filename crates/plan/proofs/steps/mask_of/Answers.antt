@@ -1,6 +1,5 @@
 -- `plan::steps::mask_of` meets its contract. Assumes nothing.
 use Rattle.plan.proofs.Looks.{one_moved}
-use borrow.Author.Rules.{rules}
 use Rattle.plan.proofs.steps.mask_of.Goals as goal
 
 pub returns : goal.returns

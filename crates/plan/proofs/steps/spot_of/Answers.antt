@@ -1,6 +1,5 @@
 -- `plan::steps::spot_of` meets its contract. Assumes nothing.
 use Rattle.plan.proofs.Looks.{no_spot, spot_is}
-use borrow.Author.Rules.{rules}
 use Rattle.plan.proofs.steps.spot_of.Goals as goal
 
 pub returns-then-number-eq0 : goal.returns-then-number-eq0

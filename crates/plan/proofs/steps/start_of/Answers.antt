@@ -1,7 +1,6 @@
 -- `plan::steps::start_of` meets its contract. Assumes nothing.
 use native.Mathlib.Omega.{arith}
 use Rattle.plan.proofs.Looks.{start_small}
-use borrow.Author.Rules.{rules}
 use Rattle.plan.proofs.steps.start_of.Goals as goal
 
 pub overflow_cast-result : goal.overflow_cast-result

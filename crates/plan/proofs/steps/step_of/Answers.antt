@@ -1,7 +1,6 @@
 -- `plan::steps::step_of` meets its contract: the numbers stand in the definition's order. Assumes nothing.
 use mathlib.Core.List.{[], ◌∷◌}
 use Rattle.plan.specs.Plan.{step_words}
-use borrow.Author.Rules.{rules}
 use Rattle.plan.proofs.steps.step_of.Goals as goal
 
 pub returns : goal.returns

@@ -1,6 +1,5 @@
 -- `pointed::register::pointed_fault` meets its contract: its tests are those of the definition, one after the other. Assumes nothing.
 use mathlib.Core.Path.{◌≡◌, sym, ◌∙◌}
-use borrow.Author.Rules.{rules}
 use Rattle.runs.specs.Run.{fault}
 use Rattle.bits.specs.Bit.{longest}
 use Rattle.pointed.proofs.Refusing.{run_refused, constant_taken, register_taken, register_refused}

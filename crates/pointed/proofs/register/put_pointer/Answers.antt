@@ -3,7 +3,6 @@ use mathlib.Core.Path.{sym, ap, ◌∙◌}
 use mathlib.Core.Bool.{Bool, cond}
 use mathlib.Core.Option.{none, some}
 use native.Mathlib.Omega.{arith}
-use borrow.Author.Rules.{rules}
 use Rattle.blocks.specs.Work.{matrix_put, one_word}
 use Rattle.pointed.proofs.Stored.{word_put}
 use Rattle.pointed.proofs.register.put_pointer.Goals as goal

@@ -1,7 +1,6 @@
 -- `pointed::single::bit` meets its contract: the position is bit (p - 1) % 16 + 1 of word (p - 1) / 16. Assumes nothing.
 use mathlib.Core.Path.{sym, ap, ◌∙◌}
 use native.Mathlib.Omega.{arith}
-use borrow.Author.Rules.{rules}
 use Rattle.bits.specs.Bit.{bit}
 use Rattle.runs.specs.Run.{run}
 use Rattle.matrix.proofs.Singles.{single_bit}

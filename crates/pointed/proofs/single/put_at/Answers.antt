@@ -1,6 +1,5 @@
 -- `pointed::single::put_at` meets its contract. Assumes nothing.
 use mathlib.Core.Path.{◌∙◌}
-use borrow.Author.Rules.{rules}
 use Rattle.pointed.proofs.Stored.{none_put, one_put}
 use Rattle.pointed.proofs.single.put_at.Goals as goal
 

@@ -1,6 +1,5 @@
 -- `scan::coil::put_coil` meets its contract: a coil is a bit of the coil area. Assumes nothing.
 use native.Mathlib.Omega.{arith}
-use borrow.Author.Rules.{rules}
 use Rattle.network.specs.Network.{areas_only}
 use Rattle.scan.proofs.Coils.{no_coil, coil_stored}
 use Rattle.scan.proofs.coil.put_coil.Goals as goal
