@@ -1,7 +1,7 @@
 # For scripts that source it: `part COMMAND...` runs a part of the gate and adds to $passed how many things passed, the number
 # with which the part's last line begins. A part that fails, or ends without such a number, ends the script with status 1.
 # `edits_count COMMAND...` ends it so, too, where that part was `rt ci` and told of must-fail edits that show nothing, which it lets
-# pass: bad ones, whose text stands no longer in their crate, and ones that are refused only since a name is gone.
+# pass: bad ones, whose text does not stand in their crate or cannot be read, and ones that are refused only since a name is gone.
 passed=0
 room=$(mktemp -d)
 trap 'rm -rf "$room"' EXIT
