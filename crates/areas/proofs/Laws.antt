@@ -9,11 +9,10 @@ use borrow.Author.Tests.{eqb-true}
 use lib.Dec.{eqb}
 use lib.ListN.{length, take, drop}
 use lib.Seq.{length-take-le}
-use Rattle.verdict.specs.declared.Verdict.{Verdict}
 use Rattle.section.specs.Walk.{word, first_of, seek}
 use Rattle.section.specs.Section.{section_earns, earned, judged_from, front}
 use Rattle.section.proofs.Limits.{most_of, count_of, up_to_in, counted_in}
-use Rattle.section.proofs.Walk.{turn_refused, turn_passed, turn_last}
+use Rattle.section.proofs.Walk.{turn_last}
 use Rattle.section.specs.Truths.{Clean}
 use Rattle.level.specs.Level.{most_level}
 use Rattle.table.specs.declared.sizes.Sizes.{Sizes}
@@ -41,15 +40,6 @@ module _ (ws : List ℕ) where
   pub areas_alone : seek (section_earns areas_section no_sizes ws) (length ws) 0 ≡ front (areas_section ∷ []) no_sizes ws
   unfolding judged_from earned
   areas_alone = turn_last (length ws) (section_earns areas_section no_sizes ws) 0
-
-  module _ {v : Verdict} (e : v ≡ seek (cond (area_count (first_of ws)) 0 2 ∷ []) (length ws) 0) where
-    pub count_refused : (v.number ≡ 0 → ⊥) → v ≡ front (areas_section ∷ []) no_sizes ws
-    unfolding section_earns areas_section
-    count_refused h = turn_refused (length ws) _ after_count 0 e h ∙ areas_alone
-
-    pub count_passed : {w : Verdict} → v.number ≡ 0 → w ≡ seek after_count (length ws) 1 → w ≡ front (areas_section ∷ []) no_sizes ws
-    unfolding section_earns areas_section
-    count_passed h f = turn_passed (length ws) _ after_count 0 e h (omega arith) f ∙ areas_alone
 
 -- ---- they earn nothing exactly where the sizes and the level are good: a level that is not among them is 1
 good_sizes : (z : Sizes) → Clean (sizes_faults z) → GoodSizes z

@@ -1,3 +1,4 @@
 -- The laws of the definitions.
 pub mod Determined
 pub mod Laws
+pub mod Tested

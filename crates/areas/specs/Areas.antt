@@ -1,14 +1,17 @@
--- The areas in words (document 01, "A network in words"; document 02, ticket 1): count 4, then the four sizes in words, each up to its
+-- The areas in words: count 4, then the four sizes in words, each up to its
 -- limit (3); or count 5, and after the sizes the level, 1 or 2 (3). Count 4 means Level 1. Assumes nothing.
-use Rattle.std.specs.Prelude.{ℕ, ◌+◌, Bool, true, false, cond, ◌||◌, List, [], ◌∷◌, eqb, take, drop}
+use Rattle.std.specs.Prelude.{ℕ, ◌+◌, Bool, true, false, cond, ◌||◌, List, [], ◌∷◌, eqb, length, take, drop, Result, Ok, Err}
 use Rattle.verdict.specs.Lists.{Words}
-use Rattle.section.specs.Limit.{counted, up_to}
-use Rattle.section.specs.Walk.{word, first_of}
+use Rattle.verdict.specs.declared.Fault.{Fault}
+use Rattle.verdict.specs.declared.Fault.TheVariants.{Count, Limit}
+use Rattle.verdict.specs.declared.Refusal.{Refusal}
+use Rattle.verdict.specs.Verdict.{Verdict, and_then}
+use Rattle.section.specs.Limit.{counted, up_to, counted_test, up_to_test}
+use Rattle.section.specs.Walk.{word, first_of, reached}
 use Rattle.section.specs.Section.{Section, front}
 use Rattle.level.specs.Level.{most_level}
 use Rattle.table.specs.declared.sizes.Sizes.{Sizes}
 use Rattle.table.specs.Table.{most_coils, most_discretes, most_inputs, most_holding}
-use Rattle.areas.specs.declared.Areas.{Areas}
 
 -- what the sizes earn, in their order, a size past its limit (3); and after them the level, another than 1 or 2 (3)
 unfoldable pub sizes_faults : Sizes → List ℕ
@@ -61,5 +64,21 @@ areas_end ws = 1 + area_words (first_of ws)
 abbrev pub no_sizes : Sizes
 no_sizes = sizes_in 4 []
 
-abbrev pub areas_of : Words → Areas
-areas_of ws = record { verdict = front (areas_section ∷ []) no_sizes ws; sizes = sizes_of ws; end = areas_end ws }
+abbrev pub areas_judged : Words → Verdict
+areas_judged ws = front (areas_section ∷ []) no_sizes ws
+
+-- the words as the code tests them, one after the other
+abbrev pub count_test : Bool → Result Unit Fault
+count_test allows = cond allows (Ok tt) (Err Count)
+
+abbrev pub level_tested : Words → Sizes → Result Unit Refusal
+level_tested ws z = cond (has_level (first_of ws)) (reached (counted_test most_level z.level Limit) (length ws) (0 + 5)) (Ok tt)
+
+unfoldable pub areas_tested : Words → Result Sizes Refusal
+areas_tested ws =
+    and_then (reached (count_test (area_count (first_of ws))) (length ws) (0 + 0)) (λ (_ : Unit).
+    and_then (reached (up_to_test most_coils (sizes_of ws).coils Limit) (length ws) (0 + 1)) (λ (_ : Unit).
+    and_then (reached (up_to_test most_discretes (sizes_of ws).discretes Limit) (length ws) (0 + 2)) (λ (_ : Unit).
+    and_then (reached (up_to_test most_inputs (sizes_of ws).inputs Limit) (length ws) (0 + 3)) (λ (_ : Unit).
+    and_then (reached (up_to_test most_holding (sizes_of ws).holding Limit) (length ws) (0 + 4)) (λ (_ : Unit).
+    and_then (level_tested ws (sizes_of ws)) (λ (_ : Unit). Ok (sizes_of ws)))))))

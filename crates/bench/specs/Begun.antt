@@ -1,4 +1,4 @@
--- A file whose run has begun: it is accepted, and its state has exactly the words of its areas and one for each block. Assumes nothing.
+-- A file whose run has begun: it is accepted, and its state has exactly the words of its areas and one for each block.
 use Rattle.std.specs.Prelude.{ℕ, ◌≡◌, false}
 use Rattle.verdict.specs.Lists.{Words}
 use Rattle.file.specs.File.{file_in, file_checked}

@@ -10,8 +10,6 @@ use Rattle.bits.proofs.move_right.Reads as move_right_reads
 use Rattle.bits.proofs.move_left.Reads as move_left_reads
 use Rattle.bits.proofs.bit_at.Reads as bit_at_reads
 use Rattle.bits.proofs.put_bit.Reads as put_bit_reads
-use Rattle.bits.proofs.both.Reads as both_reads
-use Rattle.bits.proofs.either.Reads as either_reads
 
 pub and_words : Decides and_words_reads.Post
 and_words κs a x y s t p q = p ∙ sym q
@@ -36,9 +34,3 @@ bit_at κs a x y s t p q = p ∙ sym q
 
 pub put_bit : Decides put_bit_reads.Post
 put_bit κs a x y s t p q = p ∙ sym q
-
-pub both : Decides both_reads.Post
-both κs a x y s t p q = p ∙ sym q
-
-pub either : Decides either_reads.Post
-either κs a x y s t p q = p ∙ sym q

@@ -1,4 +1,4 @@
--- The numbering of bits against outside cases: document 002, section 4, has these values and figure 4-1, and document 01 the
+-- The numbering of bits against outside cases: published values and their positions, and the
 -- worth of bits 1 and 16. Computed by the definitions. Assumes nothing.
 use mathlib.Core.Path.{◌≡◌, refl}
 use mathlib.Core.Bool.{Bool, true, false, cond}

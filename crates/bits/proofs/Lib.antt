@@ -4,4 +4,5 @@ pub mod Digits
 pub mod Examples
 pub mod Laws
 pub mod Matrix
+pub mod Places
 pub mod Tests

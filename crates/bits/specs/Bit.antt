@@ -1,4 +1,4 @@
--- The bits of a matrix (document 01, "The table").
+-- The bits of a matrix.
 --
 -- A word is a number below 2 ^ 16, and a matrix is a list of words. Its bits are numbered from 1 at the high-order bit of
 -- its first word, 16 to a word: bit 1 of a word is worth 32768, bit 16 is worth 1. A bit is a Bool, `true` where it is on.

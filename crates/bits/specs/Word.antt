@@ -1,4 +1,4 @@
--- What is done to one word, said of its bits (document 01, "One scan" and "The shape of some places"). Assumes nothing.
+-- What is done to one word, said of its bits. Assumes nothing.
 use Rattle.std.specs.Prelude.{ℕ, ◌+◌, ◌-◌, Bool, cond, eqb}
 use Rattle.bits.specs.Bit.{of}
 

@@ -1,4 +1,4 @@
--- What a block is to write, its two lower outputs and its count, by its kind's rule (document 01, "One scan"; document 02, ticket 3): from
+-- What a block is to write, its two lower outputs and its count, by its kind's rule: from
 -- what it has read and the power on its inputs. Assumes nothing.
 use Rattle.std.specs.Prelude.{ℕ, ◌-◌, ◌*◌, Bool, true, false, cond, ◌&&◌, eqb, ltb}
 use Rattle.std.proofs.Math.Option.{Option, none, some}
@@ -93,7 +93,7 @@ increased on left p = cond on (some (advanced p).at) left
 
 -- MBIT: the bit at the pointer becomes 1 with power on middle, else 0; power on bottom is increase. A pointer of 0 touches no
 -- bit. Only a held pointer, one in class 4, is increased. With power on top the middle output equals the middle input, for pointer 0
--- and over 16n too (document 02, ticket 2).
+-- and over 16n too.
 unfoldable pub modify : Bool → ℕ → View → Power → Effect
 unfolding advanced
 modify held n v on =

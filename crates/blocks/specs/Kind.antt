@@ -1,4 +1,4 @@
--- The eight kinds (document 01, "A network in words"): 1 to 8 in the order AND, OR, XOR, COMP, CMPR, MBIT, SENS, BROT.
+-- The eight kinds: 1 to 8 in the order AND, OR, XOR, COMP, CMPR, MBIT, SENS, BROT.
 -- Assumes nothing.
 use Rattle.std.specs.Prelude.{ℕ, Bool, cond, ◌&&◌, eqb, leb}
 

@@ -1,6 +1,6 @@
--- What is true of a block of an accepted network (document 01, "One scan"): which bits it writes, that it changes nothing else
--- and no input, that MBIT touches one bit and what its middle output and its lamp show (document 02, ticket 2), the key rule, when a
--- compare reports none, and what it counts (document 02, ticket 3). Assumes nothing.
+-- What is true of a block of an accepted network: which bits it writes, that it changes nothing else
+-- and no input, that MBIT touches one bit and what its middle output and its lamp show, the key rule, when a
+-- compare reports none, and what it counts. Assumes nothing.
 use Rattle.std.specs.Prelude.{ℕ, zero, suc, ◌+◌, ◌-◌, ◌*◌, ◌≤◌, ◌<◌, ◌≡◌, ◌↔◌, ◌⊎◌, Bool, true, false, cond, ◌&&◌, eqb, leb, ltb, length}
 use Rattle.std.proofs.Math.Option.{Option, none, some}
 use Rattle.verdict.specs.Lists.{Table, Matrix}

@@ -1,4 +1,4 @@
--- What a block reads of the table (document 01, "One scan"), all of it before it writes: its source, its destination and its
+-- What a block reads of the table, all of it before it writes: its source, its destination and its
 -- pointer, each only where its kind reads it. Assumes nothing.
 use Rattle.std.specs.Prelude.{ℕ, ◌+◌, cond, [], eqb, get_or}
 use Rattle.verdict.specs.Lists.{Table, Matrix}

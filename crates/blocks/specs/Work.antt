@@ -1,4 +1,4 @@
--- What a block writes (document 01, "One scan"): its destination, then its pointer where its rule gives a new one, then its
+-- What a block writes: its destination, then its pointer where its rule gives a new one, then its
 -- named coils, top, middle, bottom, also when the top input has no power. Assumes nothing.
 use Rattle.std.specs.Prelude.{ℕ, Bool, cond, [], ◌∷◌, eqb}
 use Rattle.std.proofs.Math.Option.{Option, none, some}

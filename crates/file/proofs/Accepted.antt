@@ -9,9 +9,8 @@ use borrow.Author.Tests.{eqb-true, eq-eqb}
 use lib.Dec.{eqb}
 use lib.ListN.{length, take, drop, replicate, length-append, length-drop, length-replicate}
 use lib.Seq.{take-suc, take_all, append_snoc, length-take-le, drop_at, drop-append_seam}
-use Rattle.verdict.specs.declared.Verdict.{Verdict}
 use Rattle.section.specs.Walk.{word, first_of, left_over}
-use Rattle.verdict.specs.Verdict.{done}
+use Rattle.verdict.specs.Verdict.{Verdict, done}
 use Rattle.section.specs.Section.{section_earns, section_rest, earned, end, judged_from}
 use Rattle.section.specs.Truths.{Clean, Good}
 use Rattle.section.proofs.Walk.{then_next, then_zero, done_clean, clean_done}

@@ -1,27 +1,24 @@
 -- The laws of a file's words: the network's sections in it are judged as they are alone, and the image and the run after them. Assumes
 -- nothing.
 use mathlib.Core.Path.{◌≡◌, refl, sym, ap, ap₂, ◌∙◌}
-use mathlib.Core.Bool.{Bool, true, false, cond}
-use mathlib.Core.List.{List, [], ◌∷◌, ◌++◌, map}
-use Prim.Native.Nat.{ℕ, suc, ◌+◌, ◌≤◌, ◌<◌}
-use native.Mathlib.Numerals.{add-one}
+use mathlib.Core.Bool.{Bool}
+use mathlib.Core.List.{List, [], ◌∷◌, ◌++◌, append-nil, map}
+use Prim.Native.Nat.{ℕ, ◌+◌}
 use native.Mathlib.Omega.{arith}
-use lib.Dec.{eqb}
-use lib.ListN.{length, take, drop, replicate, length-append, length-replicate}
-use Rattle.verdict.specs.declared.Verdict.{Verdict}
+use lib.ListN.{length, take, drop, length-append, length-replicate}
 use Rattle.section.specs.Walk.{word, first_of, seek, left_over}
-use Rattle.verdict.specs.Verdict.{verdict, done, then}
+use Rattle.verdict.specs.Verdict.{Verdict, then}
 use Rattle.section.specs.Section.{Section, section_earns, section_spells, section_rest, earned, meaning, end, judged_from, front, whole, lifted}
-use Rattle.section.proofs.Walk.{then_first, then_next, then_assoc, seek_missing, seek_fault, seek_next, seek_none, seek_there, turn_refused, turn_passed, turn_last}
-use Rattle.section.proofs.Words.{word_here, rest_from, all_there, some_missing}
-use Rattle.section.proofs.Sections.{earned_append, meaning_append, counts_through, lifted_as_alone, none_over, some_over, odd_over}
-use Rattle.network.specs.declared.checker.Opened.{Opened}
+use Rattle.section.proofs.Walk.{then_assoc, seek_append, turn_last}
+use Rattle.section.proofs.Words.{word_here, rest_from}
+use Rattle.section.proofs.Sections.{earned_append, meaning_append, counts_through, lifted_as_alone}
 use Rattle.table.specs.Table.{total}
 use Rattle.network.specs.Network.{Network}
-use Rattle.section.specs.Limit.{counted}
-use Rattle.network.specs.Check.{sections, network_in, network_end, front_checked, leading}
-use Rattle.file.specs.declared.checker.OpenedFile.{OpenedFile}
-use Rattle.file.specs.File.{File, table_words, network_part, image_section, most_scans, run_section, after_network, file_sections, no_file, file_in, file_checked, opened_file}
+use Rattle.network.specs.Check.{sections, network_in, network_end, front_checked}
+use Rattle.table.specs.declared.sizes.Sizes.{Sizes}
+use Rattle.network.proofs.Networks.{sizes_is}
+use Rattle.file.specs.Sound.{SpelledByIndex}
+use Rattle.file.specs.File.{File, table_words, network_part, image_section, run_section, after_network, file_sections, no_file, file_in, file_checked}
 
 -- a section whose words stand from an index on; the sections after the network, then nothing
 abbrev pub judged_at : Section File → File → List ℕ → ℕ → Verdict
@@ -83,67 +80,10 @@ run_long : (f : File) (l : List ℕ) → length (section_earns run_section f l +
 unfolding section_earns run_section
 run_long f l = refl
 
--- ---- the image and the run, from an index on
+-- ---- the image, then the run, from an index on
 module _ (ws : List ℕ) (f : File) (at : ℕ) where
   abbrev size : ℕ
   size = length ws
-
-  abbrev count_judged : ℕ → Verdict
-  count_judged n = seek (cond (eqb (word ws at) n) 0 2 ∷ []) size at
-
-  here : (n : ℕ) → count_judged n ≡ seek (cond (eqb (first_of (drop at ws)) n) 0 2 ∷ []) size at
-  here n = ap (λ (w : ℕ). seek (cond (eqb w n) 0 2 ∷ []) size at) (word_here ws at)
-
-  module _ {v : Verdict} (e : v ≡ count_judged (table_words f)) where
-    pub image_refused : (v.number ≡ 0 → ⊥) → v ≡ judged_at image_section f ws at
-    unfolding section_earns image_section
-    image_refused h = turn_refused size _ (replicate (table_words f) 0) at (e ∙ here (table_words f)) h
-
-    there : v.number ≡ 0 → at < size
-    there z = seek_there size _ [] at (ap (λ (x : Verdict). x.number) (sym e) ∙ z)
-
-    image_passed : {w : Verdict} → v.number ≡ 0 → w ≡ seek (replicate (table_words f) 0) size (at + 1) → w ≡ judged_at image_section f ws at
-    unfolding section_earns image_section
-    image_passed z h = turn_passed size _ (replicate (table_words f) 0) at (e ∙ here (table_words f)) z refl h
-
-    pub image_cut : v.number ≡ 0 → size < at + 1 + table_words f → verdict 1 (size + 1) ≡ judged_at image_section f ws at
-    image_cut z l =
-        image_passed z (ap (verdict 1) (add-one size) ∙ sym (some_missing size (table_words f) (at + 1) (omega (arith, there z)) l))
-
-    pub image_whole : v.number ≡ 0 → at + 1 + table_words f ≤ size → done ≡ judged_at image_section f ws at
-    image_whole z l = image_passed z (sym (all_there size (table_words f) (at + 1) l))
-
-  module _ {v : Verdict} (e : v ≡ count_judged 1) where
-    pub run_refused : (v.number ≡ 0 → ⊥) → v ≡ judged_at run_section f ws at
-    unfolding section_earns run_section
-    run_refused h = turn_refused size _ (counted most_scans (first_of (drop 1 (drop at ws))) 3 ∷ []) at (e ∙ here 1) h
-
-    scans_here : word ws (at + 1) ≡ first_of (drop 1 (drop at ws))
-    scans_here = word_here ws (at + 1) ∙ ap first_of (rest_from ws at 1)
-
-    run_passed : {w : Verdict} → v.number ≡ 0 → w ≡ seek (counted most_scans (word ws (at + 1)) 3 ∷ []) size (at + 1) → w ≡ judged_at run_section f ws at
-    unfolding section_earns run_section
-    run_passed z h =
-        turn_passed size _ (counted most_scans (first_of (drop 1 (drop at ws))) 3 ∷ []) at (e ∙ here 1) z refl
-        (h ∙ ap (λ (w : ℕ). seek (counted most_scans w 3 ∷ []) size (at + 1)) scans_here)
-
-    pub run_missing : v.number ≡ 0 → size ≤ at + 1 → verdict 1 (at + 1 + 1) ≡ judged_at run_section f ws at
-    run_missing z l = run_passed z (ap (verdict 1) (add-one (at + 1)) ∙ sym (seek_missing size (counted most_scans (word ws (at + 1)) 3) [] (at + 1) l))
-
-    module _ {number : ℕ} (z : v.number ≡ 0) (l : at + 1 < size) (n : number ≡ counted most_scans (word ws (at + 1)) 3) where
-      pub run_fault : (number ≡ 0 → ⊥) → verdict number (at + 1 + 1) ≡ judged_at run_section f ws at
-      run_fault h =
-          run_passed z
-          (ap₂ verdict n (add-one (at + 1)) ∙ sym (seek_fault size (counted most_scans (word ws (at + 1)) 3) [] (at + 1) l (λ y. h (n ∙ y))))
-
-      pub run_whole : number ≡ 0 → done ≡ judged_at run_section f ws at
-      run_whole h =
-          run_passed z
-          (sym (seek_next size (counted most_scans (word ws (at + 1)) 3) [] (at + 1) l (sym n ∙ h) ∙ seek_none size (suc (at + 1))))
-
-  -- ---- the image, then the run, then nothing
-  abbrev both : Verdict
-  both = judged_from after_network f ws at
 
   abbrev with_image : File
   with_image = section_spells image_section f (drop at ws)
@@ -170,52 +110,15 @@ module _ (ws : List ℕ) (f : File) (at : ℕ) where
       in
       omega (arith, parts)
 
-  module _ {v : Verdict} (e : v ≡ judged_at image_section f ws at) where
-    image_first : (v.number ≡ 0 → ⊥) → v ≡ both
-    unfolding judged_from
-    image_first h = turn_refused size (section_earns image_section f (drop at ws)) _ at e h ∙ ap (λ (l : List ℕ). seek l size at) (sym both_is)
-
-    run_next : {w : Verdict} → v.number ≡ 0 → w ≡ judged_at run_section with_image ws (at + 1 + table_words f) → w ≡ both
-    unfolding judged_from
-    run_next z h =
-        turn_passed size (section_earns image_section f (drop at ws)) _ at e z (omega (arith, image_long))
-        (h ∙ turn_last size (section_earns run_section with_image (drop (at + 1 + table_words f) ws)) (at + 1 + table_words f))
-        ∙ ap (λ (l : List ℕ). seek l size at) (sym both_is)
-
-    module _ (odd : Bool) where
-      over : Verdict
-      over = left_over (at + end after_network f (drop at ws)) size odd
-
-      pub tail_image : (v.number ≡ 0 → ⊥) → v ≡ tail_at f ws at odd
-      unfolding over
-      tail_image h = sym (then_first v over h) ∙ ap (λ (x : Verdict). then x over) (image_first h)
-
-      module _ {w : Verdict} (z : v.number ≡ 0) (r : w ≡ judged_at run_section with_image ws (at + 1 + table_words f)) where
-        pub tail_run : (w.number ≡ 0 → ⊥) → w ≡ tail_at f ws at odd
-        unfolding over
-        tail_run h = sym (then_first w over h) ∙ ap (λ (x : Verdict). then x over) (run_next z r)
-
-        tail_over : w.number ≡ 0 → left_over (at + 1 + table_words f + 2) size odd ≡ tail_at f ws at odd
-        unfolding over
-        tail_over h =
-            ap (λ (k : ℕ). left_over k size odd) (sym tail_end)
-            ∙ sym (then_next w over h)
-            ∙ ap (λ (x : Verdict). then x over) (run_next z r)
-
-        pub tail_more : w.number ≡ 0 → at + 1 + table_words f + 2 < size → verdict 11 (at + 1 + table_words f + 2 + 1) ≡ tail_at f ws at odd
-        tail_more h l =
-            ap (verdict 11) (add-one (at + 1 + table_words f + 2)) ∙ sym (some_over (at + 1 + table_words f + 2) size odd l) ∙ tail_over h
-
-        pub tail_odd : w.number ≡ 0 → odd ≡ true → verdict 11 (at + 1 + table_words f + 2 + 1) ≡ tail_at f ws at odd
-        tail_odd h o =
-            ap (verdict 11) (add-one (at + 1 + table_words f + 2))
-            ∙ sym (odd_over (at + 1 + table_words f + 2) size)
-            ∙ ap (left_over (at + 1 + table_words f + 2) size) (sym o)
-            ∙ tail_over h
-
-        pub tail_done : w.number ≡ 0 → size ≤ at + 1 + table_words f + 2 → odd ≡ false → done ≡ tail_at f ws at odd
-        tail_done h l o =
-            sym (none_over (at + 1 + table_words f + 2) size l) ∙ ap (left_over (at + 1 + table_words f + 2) size) (sym o) ∙ tail_over h
+  -- the image is judged, then the run
+  pub both_judged : judged_from after_network f ws at ≡ then (judged_at image_section f ws at) (judged_at run_section with_image ws (at + 1 + table_words f))
+  unfolding judged_from
+  both_judged =
+      let run : List ℕ = section_earns run_section with_image (drop (at + 1 + table_words f) ws) in
+      let to : at + length (section_earns image_section f (drop at ws)) ≡ at + 1 + table_words f = omega (arith, image_long) in
+      ap (λ (l : List ℕ). seek l size at) both_is
+      ∙ seek_append size (section_earns image_section f (drop at ws)) (run ++ []) at
+      ∙ ap₂ (λ (l : List ℕ) (k : ℕ). then (judged_at image_section f ws at) (seek l size k)) (append-nil run) to
 
 -- ---- what the words spell, by the index of the words
 module _ (ws : List ℕ) where
@@ -242,40 +145,10 @@ module _ (ws : List ℕ) where
       ∙ ap first_of (sym (rest_from ws after_image 1))
       ∙ sym (word_here ws (after_image + 1))
 
-  -- ---- an opening of the network at the front, and what follows
-  module _ (odd : Bool) (o : Opened) (e : o ≡ leading ws) {next table scans : ℕ} (n : next ≡ o.next) (t : table ≡ total o.sizes) (s : scans ≡ word ws (next + 1 + table + 1)) where
-    last : next ≡ network_end ws
-    last = n ∙ ap (λ (x : Opened). x.next) e
-
-    opened_as : {v : Verdict} → v ≡ file_checked ws odd
-        → ◌≡◌ {A = OpenedFile} (record { verdict = v; network = o; image = next + 1; words = table; scans = scans }) (opened_file ws odd)
-    opened_as p =
-        let same : table ≡ total (network_in ws).sizes = t ∙ ap (λ (x : Opened). total x.sizes) e in
-        λ i. record {
-          verdict = p i;
-          network = e i;
-          image = last i + 1;
-          words = (same ∙ ap (λ (net : Network). total net.sizes) (sym network_is)) i;
-          scans = (s ∙ ap₂ (λ (k m : ℕ). word ws (k + 1 + m + 1)) last same ∙ sym run_is) i;
-        }
-
-    module _ {v : Verdict} (same : v ≡ o.verdict) where
-      at_front : v ≡ front_checked ws
-      at_front = same ∙ ap (λ (x : Opened). x.verdict) e
-
-      pub check_refused : (v.number ≡ 0 → ⊥)
-          → ◌≡◌ {A = OpenedFile} (record { verdict = v; network = o; image = next + 1; words = table; scans = scans }) (opened_file ws odd)
-      check_refused h =
-          let rest : Verdict = tail_at (begun_file ws) ws (network_end ws) odd in
-          opened_as (sym (then_first v rest h) ∙ ap (λ (x : Verdict). then x rest) at_front ∙ sym (checked_is ws odd))
-
-      pub check_passed : {w : Verdict} → v.number ≡ 0 → w ≡ tail_at (begun_file ws) ws next odd
-          → ◌≡◌ {A = OpenedFile} (record { verdict = w; network = o; image = next + 1; words = table; scans = scans }) (opened_file ws odd)
-      check_passed {w} z r =
-          let rest : Verdict = tail_at (begun_file ws) ws (network_end ws) odd in
-          opened_as
-          (r
-          ∙ ap (λ (k : ℕ). tail_at (begun_file ws) ws k odd) last
-          ∙ sym (then_next v rest z)
-          ∙ ap (λ (x : Verdict). then x rest) at_front
-          ∙ sym (checked_is ws odd))
+pub spelled_by_index : SpelledByIndex
+spelled_by_index ws = record {
+  sizes = ap (λ (net : Network). net.sizes) (network_is ws) ∙ sizes_is ws;
+  words = ap (λ (net : Network). total net.sizes) (network_is ws) ∙ ap total (sizes_is ws);
+  image = image_is ws ∙ ap (λ (z : Sizes). take (total z) (drop (network_end ws + 1) ws)) (sizes_is ws);
+  scans = run_is ws ∙ ap (λ (z : Sizes). word ws (network_end ws + 1 + total z + 1)) (sizes_is ws);
+}

@@ -11,8 +11,7 @@ use native.Mathlib.Omega.{arith}
 use borrow.Author.Tests.{le-leb, lt-leb, lt-ltb, le-ltb}
 use lib.Dec.{ltb}
 use lib.ListN.{length, length-append}
-use Rattle.verdict.specs.declared.Verdict.{Verdict}
-use Rattle.verdict.specs.Verdict.{verdict, done, then}
+use Rattle.verdict.specs.Verdict.{Verdict, verdict, done, then}
 use Rattle.section.specs.Walk.{seek, left_over}
 use Rattle.section.specs.Section.{section_earns, earned, meaning, judged_from, whole, lifted}
 use Rattle.section.proofs.Walk.{then_first, then_next, le_of_not_lt, seek_missing, seek_fault, seek_next, seek_none, seek_append}

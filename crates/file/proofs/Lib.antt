@@ -6,3 +6,4 @@ pub mod Kept
 pub mod Levels
 pub mod Longer
 pub mod Starts
+pub mod Steps

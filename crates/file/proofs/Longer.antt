@@ -12,26 +12,43 @@ use borrow.Author.Tests.{lt-leb}
 use lib.Dec.{leb, ltb, eqb}
 use lib.ListN.{length, take, drop, replicate, length-append, length-replicate}
 use lib.Seq.{get_or-take, get_or-drop, length-take-le}
-use Rattle.verdict.specs.declared.Verdict.{Verdict}
-use Rattle.verdict.specs.Verdict.{verdict, done, then}
+use Rattle.verdict.specs.Verdict.{Verdict, verdict, done, then}
 use Rattle.section.specs.Limit.{counted}
 use Rattle.section.specs.Walk.{word, first_of, seek, left_over}
-use Rattle.section.specs.Section.{section_earns, earned, end, judged_from, records_earn}
-use Rattle.section.proofs.Walk.{then_first, then_next, le_of_not_lt, seek_missing, seek_fault, seek_next, seek_none}
+use Rattle.section.specs.Section.{section_earns, earned, end, judged_from, front, records_earn}
+use Rattle.section.proofs.Walk.{then_first, then_next, le_of_not_lt, seek_missing, seek_fault, seek_next, seek_none, turn_refused, turn_passed, turn_last}
 use Rattle.section.proofs.Records.{words_count}
 use Rattle.section.proofs.Sections.{some_over}
 use Rattle.table.specs.declared.sizes.Sizes.{Sizes}
 use Rattle.table.specs.Table.{total}
 use Rattle.record.specs.Record.{record_words, block_in}
 use Rattle.rules.specs.Fault.{faults}
-use Rattle.areas.specs.Areas.{sizes_faults, has_level, area_count, area_words, areas_section, sizes_of, areas_end}
+use Rattle.areas.specs.Areas.{sizes_faults, has_level, area_count, area_words, areas_section, sizes_of, areas_end, no_sizes}
 use Rattle.areas.proofs.Laws.{areas_few, areas_long, areas_alone}
 use Rattle.network.specs.Check.{most_blocks, block_faults, blocks_section, network_in, network_end, front_checked}
 use Rattle.network.proofs.Good.{front_good}
-use Rattle.network.proofs.Networks.{block_faults_long, after_areas, areas_earn, sizes_is, count_is, end_is, areas_refused, areas_passed}
+use Rattle.network.proofs.Networks.{block_faults_long, after_areas, areas_earn, from_count as count_on, earned_is, sizes_is, count_is, end_is}
 use Rattle.file.specs.File.{File, table_words, image_section, most_scans, run_section, after_network, file_checked}
 use Rattle.file.specs.Sound.{most_words, LongerSame, PlaceLow}
 use Rattle.file.proofs.Files.{begun_file, tail_at, checked_is, both_is, tail_end}
+
+-- ---- a network at the front of words is judged by its areas, then by its blocks
+module _ (ws : List ℕ) {v : Verdict} (a : v ≡ front (areas_section ∷ []) no_sizes ws) where
+  by_areas : v ≡ seek (areas_earn ws) (length ws) 0
+  by_areas = a ∙ sym (areas_alone ws)
+
+  areas_refused : (v.number ≡ 0 → ⊥) → v ≡ front_checked ws
+  unfolding front_checked judged_from
+  areas_refused h =
+      turn_refused (length ws) (areas_earn ws) (section_earns blocks_section (after_areas ws) (count_on ws) ++ []) 0 by_areas h
+      ∙ ap (λ (l : List ℕ). seek l (length ws) 0) (sym (earned_is ws))
+
+  areas_passed : {w : Verdict} → v.number ≡ 0 → w ≡ seek (section_earns blocks_section (after_areas ws) (count_on ws)) (length ws) (areas_end ws) → w ≡ front_checked ws
+  unfolding front_checked judged_from
+  areas_passed {w} h f =
+      turn_passed (length ws) (areas_earn ws) (section_earns blocks_section (after_areas ws) (count_on ws) ++ []) 0
+      by_areas h (omega (arith, areas_long ws)) (f ∙ turn_last (length ws) (section_earns blocks_section (after_areas ws) (count_on ws)) (areas_end ws))
+      ∙ ap (λ (l : List ℕ). seek l (length ws) 0) (sym (earned_is ws))
 
 -- ---- a walk over words that are all there does not look at how many there are, and its place is one of theirs
 pub walk_same : (fs : List ℕ) (m n i : ℕ) → i + length fs ≤ m → i + length fs ≤ n → seek fs m i ≡ seek fs n i

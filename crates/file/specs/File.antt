@@ -1,16 +1,16 @@
--- A whole file (document 01, "The bench program" and "Numbers returned"): areas and blocks, as a network has them, then the
+-- A whole file: areas and blocks, as a network has them, then the
 -- image (count equal to the sum of the areas, then the words), then the run (count 1, then scans, 1 to 1000). An odd last byte never
 -- makes a word. Assumes nothing.
 use Rattle.std.specs.Prelude.{ℕ, ◌+◌, refl, Bool, List, [], ◌∷◌, ◌++◌, map, eqb, take, replicate}
 use Rattle.verdict.specs.Lists.{Words, Table}
-use Rattle.verdict.specs.declared.Verdict.{Verdict}
+use Rattle.verdict.specs.Verdict.{Verdict, Said, said_by}
 use Rattle.file.specs.declared.checker.OpenedFile.{OpenedFile}
 use Rattle.section.specs.Walk.{first_of}
 use Rattle.section.specs.Section.{Section, meaning, whole, Part, lifted}
 use Rattle.table.specs.Table.{total}
 use Rattle.network.specs.Network.{Network}
 use Rattle.section.specs.Limit.{counted}
-use Rattle.network.specs.Check.{sections, no_network, network_end, leading}
+use Rattle.network.specs.Check.{sections, no_network, network_end, opened_value}
 
 -- a file as a value: its network, the words of its image, and the scans of its run
 pub record File : Type 0 where
@@ -69,17 +69,20 @@ file_checked ws odd = whole file_sections no_file ws odd
 
 -- ---- for the calls
 
--- a verdict with what the words spell
-abbrev pub opened_file_with : Words → Verdict → OpenedFile
-opened_file_with ws v = record {
-  verdict = v;
-  network = leading ws;
+-- what an opened file has, which is what the words spell
+abbrev pub opened_file_value : Words → OpenedFile
+opened_file_value ws = record {
+  network = opened_value ws;
   image = network_end ws + 1;
   words = table_words (file_in ws);
   scans = (file_in ws).run;
 }
 
-abbrev pub opened_file : Words → Bool → OpenedFile
+-- a verdict with what the words spell where it is done
+abbrev pub opened_file_with : Words → Verdict → Said OpenedFile
+opened_file_with ws v = said_by v (opened_file_value ws)
+
+abbrev pub opened_file : Words → Bool → Said OpenedFile
 opened_file ws odd = opened_file_with ws (file_checked ws odd)
 
 -- ---- what the code may rely on, whatever the words are: a network ends at 7 + 15 * 65535 at the latest, and four areas have

@@ -1,10 +1,10 @@
 -- What an accepted file is, said without the checker's order. Assumes nothing.
-use Rattle.std.specs.Prelude.{ℕ, ◌+◌, ◌≤◌, ◌≡◌, Bool, false, cond, [], ◌∷◌, ◌++◌, ◌↔◌, leb, length, take}
+use Rattle.std.specs.Prelude.{ℕ, ◌+◌, ◌≤◌, ◌≡◌, Bool, false, cond, [], ◌∷◌, ◌++◌, ◌↔◌, leb, length, take, drop}
 use Rattle.verdict.specs.Lists.{Words}
-use Rattle.verdict.specs.declared.Verdict.{Verdict}
-use Rattle.verdict.specs.Verdict.{verdict}
-use Rattle.section.specs.Walk.{first_of}
-use Rattle.areas.specs.Areas.{has_level}
+use Rattle.verdict.specs.Verdict.{Verdict, verdict}
+use Rattle.section.specs.Walk.{word, first_of}
+use Rattle.table.specs.Table.{total}
+use Rattle.areas.specs.Areas.{has_level, sizes_of}
 use Rattle.network.specs.Network.{words_of}
 use Rattle.network.specs.Check.{network_end, leading, opened}
 use Rattle.network.specs.Sound.{GoodNetwork}
@@ -35,6 +35,16 @@ AcceptsFiles = (ws : Words) (odd : Bool) → ((file_checked ws odd).number ≡ 0
 -- the words of an accepted file up to where its network ends are a network, which opens as it does at the front of the file
 abbrev pub FrontOpens : Type 0
 FrontOpens = (ws : Words) (odd : Bool) → SoundFile ws odd → opened (take (network_end ws) ws) ≡ leading ws
+
+-- What any words spell, refused ones too, by where their network ends, the sizes at their front and single words.
+pub record Spelled (ws : Words) : Type 0 where
+  pub sizes : (file_in ws).network.sizes ≡ sizes_of ws
+  pub words : table_words (file_in ws) ≡ total (sizes_of ws)
+  pub image : (file_in ws).image ≡ take (total (sizes_of ws)) (drop (network_end ws + 1) ws)
+  pub scans : (file_in ws).run ≡ word ws (network_end ws + 1 + total (sizes_of ws) + 1)
+
+abbrev pub SpelledByIndex : Type 0
+SpelledByIndex = (ws : Words) → Spelled ws
 
 -- Count 4 means Level 1: words without the level, and the same with level 1 after the sizes, spell the same file and earn the same refusal,
 -- whose place is one higher where it stands after the sizes.

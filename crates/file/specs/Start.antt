@@ -1,8 +1,7 @@
--- The start of a file's run (document 01, "The bench program"): the table holds the image at its front. Assumes nothing.
+-- The start of a file's run: the table holds the image at its front. Assumes nothing.
 use Rattle.std.specs.Prelude.{ℕ, ◌≡◌, Bool, cond, ◌++◌, leb, eqb, length, take, drop}
 use Rattle.verdict.specs.Lists.{Words, Table}
-use Rattle.verdict.specs.declared.Verdict.{Verdict}
-use Rattle.verdict.specs.Verdict.{verdict, done, then}
+use Rattle.verdict.specs.Verdict.{Verdict, verdict, done, then, Said}
 use Rattle.file.specs.declared.checker.OpenedFile.{OpenedFile}
 use Rattle.file.specs.File.{table_words, file_in, file_checked, opened_file_with}
 
@@ -10,7 +9,7 @@ use Rattle.file.specs.File.{table_words, file_in, file_checked, opened_file_with
 unfoldable pub start_verdict : Words → Bool → ℕ → Verdict
 start_verdict ws odd size = then (file_checked ws odd) (cond (leb (table_words (file_in ws)) size) done (verdict 12 0))
 
-abbrev pub started : Words → Bool → ℕ → OpenedFile
+abbrev pub started : Words → Bool → ℕ → Said OpenedFile
 started ws odd size = opened_file_with ws (start_verdict ws odd size)
 
 -- the table: the image, and after it the words that were there

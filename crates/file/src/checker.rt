@@ -1,19 +1,17 @@
 // The verdict on a whole file: the network at its front, then the image, then the run, each word when it is reached.
-ghost use Rattle.std.specs.Prelude.{◌≡◌, [], ◌∷◌, ◌+◌, ◌≤◌, ◌<◌, length, drop};
-ghost use Rattle.section.specs.Walk.{left_over};
-ghost use Rattle.verdict.specs.Verdict.{then};
-ghost use Rattle.section.specs.Section.{end, judged_from};
-ghost use Rattle.file.specs.File.{File, table_words, image_section, run_section, after_network, opened_file, last_end, largest_table};
+ghost use Rattle.std.specs.Prelude.{◌≡◌, ◌≤◌, ◌+◌};
+ghost use Rattle.verdict.specs.Verdict.{numbered};
+ghost use Rattle.file.specs.File.{opened_file, last_end, largest_table};
+ghost use Rattle.file.specs.Steps.{image_tested, run_tested, tail_tested, file_tested};
 
 use network::Opened;
-use section::{counted, word};
-use verdict::Verdict;
+use section::{count, counted, reach, word};
+use verdict::{Fault, Refusal};
 
-// The verdict on a file with what its words spell: the network at its front, the index of the image's first word, how many words
-// the image has, and the scans.
-#[derive(Clone, Copy)]
+/// An accepted file: the network at its front, the index of the image's first word, how many words the image has, and
+/// the scans.
+#[derive(Clone, Copy, Debug, PartialEq, Eq)]
 pub struct OpenedFile {
-    pub verdict: Verdict,
     pub network: Opened,
     pub image: usize,
     pub words: usize,
@@ -23,111 +21,73 @@ pub struct OpenedFile {
 // The most scans of a run.
 const MOST_SCANS: usize = 1000;
 
-// The first refusal of the image, which has so many words and whose count stands at an index: the words only have to be there.
-fn image(words: &[u16], at: usize, table: usize) -> Verdict
-    requires { (at ≤ last_end) × (table ≤ largest_table) }
-    ensures { (f : File) → table_words f ≡ table → result ≡ judged_from (image_section ∷ []) f words.now at }
+// The image, which has so many words and whose count stands at an index: the words only have to be there.
+fn image(words: &[u16], at: usize, total: usize) -> Result<(), Refusal>
+    requires { (at ≤ last_end) × (total ≤ largest_table) }
+    ensures { result ≡ image_tested words.now at total }
 {
-    let verdict = section::count(word(words, at) as usize == table, at as u32, words.len());
-    if verdict.number != 0 {
-        return verdict;
+    count(word(words, at) as usize == total, at as u32, words.len())?;
+    if words.len() < at + 1 + total {
+        return Err(Fault::Missing.at(words.len() + 1));
     }
-    if words.len() < at + 1 + table {
-        return Verdict {
-            number: 1,
-            place: words.len() + 1,
-        };
-    }
-    Verdict {
-        number: 0,
-        place: 0,
-    }
+    Ok(())
 }
 
-// The first refusal of the run, whose count stands at an index.
-fn run(words: &[u16], at: usize) -> Verdict
+// The run, whose count stands at an index.
+fn run(words: &[u16], at: usize) -> Result<(), Refusal>
     requires { at ≤ last_end + 1 + largest_table }
-    ensures { (f : File) → result ≡ judged_from (run_section ∷ []) f words.now at }
+    ensures { result ≡ run_tested words.now at }
 {
-    let verdict = section::count(word(words, at) == 1, at as u32, words.len());
-    if verdict.number != 0 {
-        return verdict;
-    }
-    let i = at + 1;
-    let place = i + 1;
-    if words.len() <= i {
-        return Verdict { number: 1, place };
-    }
-    let number = counted(MOST_SCANS, word(words, i) as usize, 3);
-    if number != 0 {
-        return Verdict { number, place };
-    }
-    Verdict {
-        number: 0,
-        place: 0,
-    }
+    count(word(words, at) == 1, at as u32, words.len())?;
+    let scans = word(words, at + 1) as usize;
+    reach(
+        counted(MOST_SCANS, scans, Fault::Limit),
+        at as u32,
+        1,
+        words.len(),
+    )
 }
 
-// The first refusal after the network: the image, the run, then what is left over.
-fn tail(words: &[u16], at: usize, table: usize, odd: bool) -> Verdict
-    requires { (at ≤ last_end) × (table ≤ largest_table) }
-    ensures { (f : File) → table_words f ≡ table →
-        result ≡ then (judged_from after_network f words.now at)
-        (left_over (at + end after_network f (drop at words.now)) (length words.now) odd) }
+// What stands after the network: the image, the run, then nothing.
+fn tail(words: &[u16], at: usize, total: usize, odd: bool) -> Result<(), Refusal>
+    requires { (at ≤ last_end) × (total ≤ largest_table) }
+    ensures { result ≡ tail_tested words.now at total odd }
 {
-    let verdict = image(words, at, table);
-    if verdict.number != 0 {
-        return verdict;
-    }
-    let from = at + 1 + table;
-    let verdict = run(words, from);
-    if verdict.number != 0 {
-        return verdict;
-    }
+    image(words, at, total)?;
+    let from = at + 1 + total;
+    run(words, from)?;
     let end = from + 2;
-    if end < words.len() {
-        return Verdict {
-            number: 11,
-            place: end + 1,
-        };
+    if end < words.len() || odd {
+        return Err(Fault::LeftOver.at(end + 1));
     }
-    if odd {
-        return Verdict {
-            number: 11,
-            place: end + 1,
-        };
-    }
-    Verdict {
-        number: 0,
-        place: 0,
-    }
+    Ok(())
 }
 
-// The verdict on a file of these words, after which an odd byte may stand.
-pub fn check(words: &[u16], odd: bool) -> OpenedFile
-    ensures { result ≡ opened_file words.now odd }
+// The network, and what stands after it. Apart from `check` and its contract in numbers, so that each `?` is proved
+// once.
+#[tactic(auto, using(crate::proofs::Steps::near))]
+fn test(words: &[u16], odd: bool) -> Result<OpenedFile, Refusal>
+    ensures { result ≡ file_tested words.now odd }
 {
-    let network = network::leading(words);
+    let network = network::leading(words)?;
     let next = network.next();
-    let table = table::total(network.sizes()) as usize;
+    let total = table::total(network.sizes()) as usize;
+    tail(words, next, total, odd)?;
     let image = next + 1;
-    let scans = word(words, image + table + 1);
-    let verdict = network.verdict();
-    if verdict.number != 0 {
-        return OpenedFile {
-            verdict,
-            network,
-            image,
-            words: table,
-            scans,
-        };
-    }
-    let verdict = tail(words, next, table, odd);
-    OpenedFile {
-        verdict,
+    let scans = word(words, image + total + 1);
+    Ok(OpenedFile {
         network,
         image,
-        words: table,
+        words: total,
         scans,
-    }
+    })
+}
+
+/// A file of these words, after which an odd byte may stand. Where refused words would have their image and scans,
+/// `network::end`, `network::sizes_in` and `section::word` say.
+#[tactic(auto, using(crate::proofs::Steps::file_said))]
+pub fn check(words: &[u16], odd: bool) -> Result<OpenedFile, Refusal>
+    ensures { numbered result ≡ opened_file words.now odd }
+{
+    test(words, odd)
 }

@@ -1,7 +1,7 @@
-// The bench file: areas and blocks, as a network has them, then the image, then the run; the verdict on it, and the start of its
-// run on a lent table.
+// The bench file: areas and blocks, as a network has them, then the image, then the run; the verdict on it, and the
+// start of its run on a lent table.
 //
-// Every call takes any words. It accepts them, or it refuses them with document 01's number and place and changes nothing.
+// Every call takes any words. It accepts them, or it refuses them with a fault and a place and changes nothing.
 #![tactic(auto)]
 
 mod checker;

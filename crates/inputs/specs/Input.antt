@@ -1,5 +1,4 @@
--- The power that a block's inputs pass (document 01, "A network in words"): never, always, a contact, or an output of an
--- earlier block in this scan. Assumes nothing.
+-- The power that a block's inputs pass: never, always, a contact, or an output of an earlier block in this scan.
 use Rattle.std.specs.Prelude.{ℕ, ◌-◌, Bool, true, false, not, cond, List, eqb, get_or}
 use Rattle.verdict.specs.Lists.{Table}
 use Rattle.bits.specs.Bit.{bit}

@@ -5,4 +5,5 @@ pub mod Checked
 pub mod Determined
 pub mod Kept
 pub mod Numbers
+pub mod Places
 pub mod Wholes

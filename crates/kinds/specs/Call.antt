@@ -1,18 +1,18 @@
--- A block's work by the indexes of its nodes' first words, for a table of any length, and the refusals of the call that does it
--- (document 01, "Numbers returned"): 4 for a kind that is none of the eight, 5 for a length that the kind does not take, 8 for a run
+-- A block's work by the indexes of its nodes' first words, for a table of any length, and the refusals of the call that does it:
+-- 4 for a kind that is none of the eight, 5 for a length that the kind does not take, 8 for a run
 -- or a pointer's register outside the table, at place 0. And the pointer that a block shows. Assumes nothing.
 use Rattle.std.specs.Prelude.{ℕ, cond, length}
 use Rattle.verdict.specs.Lists.{Table}
 use Rattle.runs.specs.Run.{fault, unless}
 use Rattle.bits.specs.Bit.{longest_whole}
 use Rattle.rules.specs.Rules.{kind}
-use Rattle.blocks.specs.declared.{Power.Power, Located.Located, answer.Worked.Worked}
+use Rattle.blocks.specs.declared.{Power.Power, Located.Located}
 use Rattle.blocks.specs.Kind.{Kind, kind_of, has_pointer}
 use Rattle.blocks.specs.Kind.Kind.{AND, OR, XOR, COMP, CMPR, MBIT, SENS, BROT}
 use Rattle.blocks.specs.View.{pointer_at, seen_by}
 use Rattle.blocks.specs.Effect.{Effect, effect_of}
 use Rattle.blocks.specs.Work.{pointer_node, matrix_put, change_put, effect_put, effect_as, outputs}
-use Rattle.blocks.specs.Answer.{finished, refused}
+use Rattle.blocks.specs.Answer.{Worked, finished, refused}
 use Rattle.pointed.specs.Call.{compare_fault, pointed_fault}
 
 -- ---- refusals

@@ -1,4 +1,4 @@
--- The levels of a machine, 1 and 2, and the limits that go by them (document 02, ticket 1). Every limit that a level changes stands
+-- The levels of a machine, 1 and 2, and the limits that go by them. Every limit that a level changes stands
 -- here; no other definition has a case for the level. Assumes nothing.
 use Rattle.std.specs.Prelude.{ℕ, cond, eqb}
 use Rattle.bits.specs.Bit.{longest_whole, longest}

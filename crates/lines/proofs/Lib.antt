@@ -1,2 +1,3 @@
--- The theorem about the line of a block.
+-- The theorem about the line of a block, and the laws of its pieces.
 pub mod Determined
+pub mod Pieces

@@ -13,8 +13,7 @@ use lib.Seq.{get_or-set_same, get_or-set_other, ext_get_or}
 use Rattle.bits.specs.Bit.{word_with, matrix}
 use Rattle.bits.proofs.Matrix.{matrix_at, matrix_length}
 use Rattle.runs.specs.Run.{placed}
-use Rattle.matrix.specs.declared.merge.Merge.{Merge}
-use Rattle.matrix.specs.Inner.{merged, merged_at, Rewritten}
+use Rattle.matrix.specs.Inner.{merged_at, Rewritten}
 use Rattle.matrix.proofs.Runs.{word_inside, word_outside, placed_length}
 
 pub nothing_yet : (t : List ℕ) (word : ℕ → ℕ) (k : ℕ) → Rewritten t word k k t
@@ -101,33 +100,33 @@ placing t d n f h =
     }
 
 -- ---- what a merge makes
-module _ (merge : Merge) (t : List ℕ) (a b at : ℕ) where
-  pub merged_word : (k i j : ℕ) → i ≡ a + (k - at) → j ≡ b + (k - at) → word_with (merged merge (get_or t i 0) (get_or t j 0)) ≡ merged_at merge t a b at k
-  merged_word k i j x y = ap₂ (λ (v w : ℕ). word_with (merged merge (get_or t v 0) (get_or t w 0))) x y
+module _ (word : ℕ → ℕ → ℕ) (t : List ℕ) (a b at : ℕ) where
+  pub merged_word : (k i j : ℕ) → i ≡ a + (k - at) → j ≡ b + (k - at) → word (get_or t i 0) (get_or t j 0) ≡ merged_at word t a b at k
+  merged_word k i j x y = ap₂ (λ (v w : ℕ). word (get_or t v 0) (get_or t w 0)) x y
 
   -- from the i-th word on it is what it makes of the words from the i-th on
-  pub from_there : (i c : ℕ) {next : ℕ} {table : List ℕ} → i + c ≡ next → Rewritten t (merged_at merge t (a + i) (b + i) (at + i)) (at + i) (at + i + c) table
-      → Rewritten t (merged_at merge t a b at) (at + i) (at + next) table
+  pub from_there : (i c : ℕ) {next : ℕ} {table : List ℕ} → i + c ≡ next → Rewritten t (merged_at word t (a + i) (b + i) (at + i)) (at + i) (at + i + c) table
+      → Rewritten t (merged_at word t a b at) (at + i) (at + next) table
   from_there i c e q =
       until (omega arith)
       (restated q
       (λ k l u.
       let x : a + i + (k - (at + i)) ≡ a + (k - at) = omega arith in
       let y : b + i + (k - (at + i)) ≡ b + (k - at) = omega arith in
-      ap₂ (λ (v w : ℕ). word_with (merged merge (get_or t v 0) (get_or t w 0))) x y))
+      ap₂ (λ (v w : ℕ). word (get_or t v 0) (get_or t w 0)) x y))
 
   -- ---- the second part is merged of words that the first left as they were
-  module _ {from to : ℕ} {table : List ℕ} (r : Rewritten t (merged_at merge t a b at) from to table) (h : from ≤ to) where
+  module _ {from to : ℕ} {table : List ℕ} (r : Rewritten t (merged_at word t a b at) from to table) (h : from ≤ to) where
     still_merged : (k : ℕ) → get_or table (a + (k - at)) 0 ≡ get_or t (a + (k - at)) 0 → get_or table (b + (k - at)) 0 ≡ get_or t (b + (k - at)) 0
-        → merged_at merge table a b at k ≡ merged_at merge t a b at k
-    still_merged k x y = ap₂ (λ (v w : ℕ). word_with (merged merge v w)) x y
+        → merged_at word table a b at k ≡ merged_at word t a b at k
+    still_merged k x y = ap₂ word x y
 
-    pub merged_after : {next : ℕ} {other : List ℕ} → (at ≤ a) × (at ≤ b) → at ≤ to → to ≤ next → Rewritten table (merged_at merge table a b at) to next other
-        → Rewritten t (merged_at merge t a b at) from next other
+    pub merged_after : {next : ℕ} {other : List ℕ} → (at ≤ a) × (at ≤ b) → at ≤ to → to ≤ next → Rewritten table (merged_at word table a b at) to next other
+        → Rewritten t (merged_at word t a b at) from next other
     merged_after p l u q =
         then_after r h (restated q (λ k v w. still_merged k (r.above (a + (k - at)) (omega arith)) (r.above (b + (k - at)) (omega arith)))) u
 
-    pub merged_before : {first : ℕ} {other : List ℕ} → (a ≤ at) × (b ≤ at) → at ≤ first → first ≤ from → Rewritten table (merged_at merge table a b at) first from other
-        → Rewritten t (merged_at merge t a b at) first to other
+    pub merged_before : {first : ℕ} {other : List ℕ} → (a ≤ at) × (b ≤ at) → at ≤ first → first ≤ from → Rewritten table (merged_at word table a b at) first from other
+        → Rewritten t (merged_at word t a b at) first to other
     merged_before p l u q =
         then_before r h (restated q (λ k v w. still_merged k (r.below (a + (k - at)) (omega arith)) (r.below (b + (k - at)) (omega arith)))) u

@@ -16,7 +16,9 @@ use Rattle.bits.proofs.Digits.{value_cong}
 use Rattle.bits.proofs.Laws.{word_of}
 use Rattle.bits.proofs.Matrix.{matrix_by_words}
 use Rattle.bits.proofs.Tests.{eqb_iff}
-use Rattle.runs.specs.Run.{run, placed}
+use Rattle.runs.specs.Run.{run, placed, fault_at}
+use Rattle.runs.proofs.Refusals.{located, stays, unless_done}
+use Rattle.matrix.specs.Single.{put_table}
 use Rattle.matrix.proofs.Runs.{run_length, run_at, run_bit}
 
 -- ---- a run put back in its place
@@ -90,3 +92,15 @@ module _ (t : List ℕ) (s n p : ℕ) (h : s + n ≤ length t) (l : 1 ≤ p) (u 
     unfolding after
     put_stored v e =
         placed_set t s n ((p - 1) / 16) v h (omega arith) ∙ ap (placed t s) (stored_words v (e ∙ put_word))
+
+-- a word with a bit put, stored where its position stands, is the bit put in the run
+pub puts : (t : List ℕ) (s n p : ℕ) (on : Bool) (v : ℕ) → 0 ≡ fault_at (length t) n s p → ((k : ℕ) → get_or t k 0 < 2 ^ 16)
+    → v ≡ word_with (put (get_or t (s + (p - 1) / 16) 0) ((p - 1) % 16 + 1) on) → set t (s + (p - 1) / 16) v ≡ put_table t s n p on
+unfolding put_table
+puts t s n p on v none small e =
+    let h = located (length t) n s p (sym none) in
+    put_stored t s n p h.run_accepted.first h.counted h.within on small v e ∙ sym (unless_done _ _ _ (sym none))
+
+pub ruleset reading = (located, single_bit)
+
+pub ruleset putting = (located, stays, puts)

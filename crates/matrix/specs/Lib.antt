@@ -1,5 +1,4 @@
--- What the contracts of `matrix` cite, in document 01's order: what an answer says, and what is done to the runs of words of a table.
-pub mod Answer
+-- What the contracts of `matrix` cite: what is done to the runs of words of a table.
 pub mod Inner
 pub mod Logic
 pub mod Move

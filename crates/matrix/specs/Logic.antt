@@ -1,13 +1,12 @@
--- AND, OR, XOR and COMP over two matrices of a table (document 01, "One scan"): the destination's bit becomes the operation
+-- AND, OR, XOR and COMP over two matrices of a table: the destination's bit becomes the operation
 -- on both matrices' bits, both as they were before. Assumes nothing.
 use Rattle.std.specs.Prelude.{ℕ, Bool, not, ◌&&◌, ◌||◌, length}
 use Rattle.std.specs.Bool.{xor}
 use Rattle.verdict.specs.Lists.{Table}
-use Rattle.verdict.specs.declared.Verdict.{Verdict}
 use Rattle.bits.specs.Bit.{bit, matrix, longest_whole}
 use Rattle.matrix.specs.declared.{logic.Operation.Operation, logic.Operation.TheVariants.And, logic.Operation.TheVariants.Or, logic.Operation.TheVariants.Xor, logic.Operation.TheVariants.Comp}
 use Rattle.runs.specs.Run.{run, placed, fault, unless}
-use Rattle.verdict.specs.Verdict.{placeless}
+use Rattle.verdict.specs.Verdict.{Verdict, placeless}
 
 -- the operation on a bit of the source and the destination's bit at its position
 unfoldable pub combined : Operation → Bool → Bool → Bool

@@ -1,11 +1,11 @@
--- A matrix moved by one position (document 01, "One scan", BROT): left takes bit 2 into 1, right takes bit 1 into 2. With
+-- A matrix moved by one position (BROT): left takes bit 2 into 1, right takes bit 1 into 2. With
 -- wrap the bit that leaves enters at the other end, else 0 enters. Assumes nothing.
 use Rattle.std.specs.Prelude.{ℕ, ◌+◌, ◌-◌, ◌*◌, Bool, cond, ◌&&◌, eqb, length}
 use Rattle.verdict.specs.Lists.{Table, Matrix}
 use Rattle.bits.specs.Bit.{bit, matrix, longest_whole}
 use Rattle.runs.specs.Run.{run, placed, fault, unless}
 use Rattle.verdict.specs.Verdict.{placeless}
-use Rattle.verdict.specs.Said.{Said, said_by}
+use Rattle.verdict.specs.Verdict.{Said, said_by}
 
 -- the bit of an n-word matrix that leaves it
 abbrev pub leaving : Bool → Matrix → ℕ → Bool

@@ -1,11 +1,10 @@
--- One bit of a matrix, read or put (document 01, "One scan", SENS and MBIT). Assumes nothing.
+-- One bit of a matrix, read or put (SENS and MBIT). Assumes nothing.
 use Rattle.std.specs.Prelude.{ℕ, Bool, cond, eqb, length}
 use Rattle.verdict.specs.Lists.{Table}
-use Rattle.verdict.specs.declared.Verdict.{Verdict}
 use Rattle.bits.specs.Bit.{bit, matrix}
 use Rattle.runs.specs.Run.{run, placed, fault_at, unless}
-use Rattle.verdict.specs.Verdict.{placeless}
-use Rattle.verdict.specs.Said.{Said, said_by}
+use Rattle.verdict.specs.Verdict.{Verdict, placeless}
+use Rattle.verdict.specs.Verdict.{Said, said_by}
 
 -- the matrix is the n words from s on
 abbrev pub read_said : Table → ℕ → ℕ → ℕ → Said Bool

@@ -7,9 +7,8 @@ use Prim.Native.Nat.{ℕ, zero, suc, ◌+◌, ◌*◌, ◌≤◌}
 use native.Mathlib.Omega.{arith}
 use lib.ListN.{length, take, drop, length-append, length-drop}
 use lib.Seq.{take_at, take-add, take_all, length-take-le}
-use Rattle.verdict.specs.declared.Verdict.{Verdict}
 use Rattle.section.specs.Walk.{word, first_of}
-use Rattle.verdict.specs.Verdict.{done}
+use Rattle.verdict.specs.Verdict.{Verdict, done, said_by}
 use Rattle.section.specs.Section.{section_earns, meaning, records_in}
 use Rattle.section.proofs.Words.{one_more}
 use Rattle.table.specs.declared.sizes.Sizes.{Sizes}
@@ -133,12 +132,12 @@ front_opens ws e =
     let all = front_good ws e in
     let long : network_end ws ≡ length (words_of level net) = sym (ap length (front_words ws e) ∙ length-take-le (network_end ws) ws all.2) in
     ap opened (sym (front_words ws e))
-    ∙ λ i. record {
-      verdict = (good_accepted level net (spellable ws) all.1 ∙ sym (front_done ws e)) i;
+    ∙ λ i. said_by ((good_accepted level net (spellable ws) all.1 ∙ sym (front_done ws e)) i)
+    (record {
       sizes = (back i).sizes;
       count = block_count (back i);
       next = (words_end level net ∙ sym long) i;
-    }
+    })
 
 -- ---- all of the words
 accepted_sound : (ws : List ℕ) → (checked ws).number ≡ 0 → Sound ws

@@ -7,9 +7,8 @@ use native.Mathlib.Nat.{zero-add}
 use native.Mathlib.Omega.{arith}
 use borrow.Author.Tests.{le-leb, leb-true}
 use lib.ListN.{length, drop}
-use Rattle.verdict.specs.declared.Verdict.{Verdict}
 use Rattle.section.specs.Walk.{word, first_of}
-use Rattle.verdict.specs.Verdict.{done}
+use Rattle.verdict.specs.Verdict.{Verdict, done}
 use Rattle.section.specs.Section.{section_rest, meaning, records_in, lifted}
 use Rattle.section.specs.Truths.{Clean, Good}
 use Rattle.section.proofs.Sections.{whole_done, accepts_sections, front_good as sections_front_good, good_front as sections_good_front, good_whole as sections_good_whole}

@@ -4,4 +4,5 @@ pub mod Determined
 pub mod Good
 pub mod Networks
 pub mod ReadAt
+pub mod Steps
 pub mod Values

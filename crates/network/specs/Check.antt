@@ -1,18 +1,16 @@
--- The checker (document 01, "Numbers returned"): words are checked from the first on, each when it is reached. A network is two
+-- The checker: words are checked from the first on, each when it is reached. A network is two
 -- sections, the areas and the blocks. Assumes nothing.
 use Rattle.std.specs.Prelude.{ℕ, ◌+◌, ◌-◌, ◌*◌, refl, false, cond, ◌&&◌, List, [], ◌∷◌, leb, length, drop}
-use Rattle.std.proofs.Math.Option.{none}
 use Rattle.verdict.specs.Lists.{Words}
-use Rattle.verdict.specs.declared.Verdict.{Verdict}
-use Rattle.verdict.specs.Verdict.{verdict, done, then}
-use Rattle.verdict.specs.Said.{Said, said_by}
+use Rattle.verdict.specs.Verdict.{Verdict, verdict, done, then}
+use Rattle.verdict.specs.Verdict.{Said, said_by}
 use Rattle.section.specs.Section.{Section, meaning, end, front, whole, records_earn, records_in, Part, lifted}
 use Rattle.table.specs.declared.sizes.Sizes.{Sizes}
 use Rattle.areas.specs.Areas.{areas_section, areas_end, no_sizes}
 use Rattle.record.specs.declared.Block.{Block}
 use Rattle.record.specs.Record.{record_words, block_in}
 use Rattle.rules.specs.Fault.{faults}
-use Rattle.network.specs.declared.{checker.Opened.Opened, reading.Read.Read, reading.Read.TheVariants.Record, reading.Read.TheVariants.Refused}
+use Rattle.network.specs.declared.{checker.Opened.Opened}
 use Rattle.network.specs.Network.{Network, areas_only, block_count}
 
 -- ---- the areas spell the network's sizes
@@ -60,24 +58,21 @@ front_checked ws = front sections no_network ws
 unfoldable pub checked : Words → Verdict
 checked ws = whole sections no_network ws false
 
--- a verdict with what the words spell
-abbrev pub opened_with : Words → Verdict → Opened
-opened_with ws v = record { verdict = v; sizes = (network_in ws).sizes; count = block_count (network_in ws); next = network_end ws }
+-- what an opening has, which is what the words spell
+abbrev pub opened_value : Words → Opened
+opened_value ws = record { sizes = (network_in ws).sizes; count = block_count (network_in ws); next = network_end ws }
 
-abbrev pub leading : Words → Opened
-leading ws = opened_with ws (front_checked ws)
+-- a verdict with what the words spell where it is done: of the network at their front, and of one that is all of the words
+abbrev pub leading : Words → Said Opened
+leading ws = said_by (front_checked ws) (opened_value ws)
 
-abbrev pub opened : Words → Opened
-opened ws = opened_with ws (checked ws)
+abbrev pub opened : Words → Said Opened
+opened ws = said_by (checked ws) (opened_value ws)
 
--- ---- the reader: its answer says a record, or a refusal and no record
-abbrev pub record_said : Read → Said Block
-record_said (Record b) = said_by done b
-record_said (Refused v) = record { verdict = v; value = none }
-
--- the opening's refusal, or 12 when k isn't 1 to the count or the words, so many, are fewer than the opening's network has
+-- ---- the reader
+-- 12 when k isn't 1 to the count or the words, so many, are fewer than the opening's network has
 unfoldable pub read_verdict : Opened → ℕ → ℕ → Verdict
-read_verdict o k size = then o.verdict (cond (leb 1 k && leb k o.count && leb o.next size) done (verdict 12 0))
+read_verdict o k size = cond (leb 1 k && leb k o.count && leb o.next size) done (verdict 12 0)
 
 -- a record's words stand after the areas, the count of the blocks and the earlier blocks
 abbrev pub record_start : Words → ℕ → ℕ
@@ -86,5 +81,6 @@ record_start ws earlier = areas_end ws + 1 + record_words * earlier
 unfoldable pub read_at : Words → Opened → ℕ → Said Block
 read_at ws o k = said_by (read_verdict o k (length ws)) (block_in (drop (record_start ws (k - 1)) ws))
 
+-- the record of block k of words that are checked first
 abbrev pub read : Words → ℕ → Said Block
-read ws k = read_at ws (opened ws) k
+read ws k = said_by (then (checked ws) (read_verdict (opened_value ws) k (length ws))) (block_in (drop (record_start ws (k - 1)) ws))

@@ -1,4 +1,4 @@
--- A network as a value (document 01, "A network in words"): the sizes of its areas with the level, and its blocks in order.
+-- A network as a value: the sizes of its areas with the level, and its blocks in order.
 -- Assumes nothing.
 use Rattle.std.specs.Prelude.{ℕ, Bool, length, get_or}
 use mathlib.Core.List.{List, [], ◌∷◌, ◌++◌, flat_map}

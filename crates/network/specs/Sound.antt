@@ -1,5 +1,5 @@
--- What a network must be, said once more and without the checker's order: the conditions of document 01 as one predicate. And the
--- round trip between networks and words (demand 2). Assumes nothing.
+-- What a network must be, said once more and without the checker's order: the conditions as one predicate. And the
+-- round trip between networks and words. Assumes nothing.
 use Rattle.std.specs.Prelude.{ℕ, ◌≤◌, ◌<◌, ◌≡◌, Bool, false, ◌↔◌}
 use Rattle.verdict.specs.Lists.{Words}
 use Rattle.section.specs.Walk.{first_of}

@@ -1,10 +1,8 @@
--- A scan whose outputs come back in a lent list of records (document 01, "One scan"): the contract of the call, and what is true of
--- it. Assumes nothing.
+-- A scan whose outputs come back in a lent list of records: what the call answers and leaves, and what is true of it.
 use Rattle.std.specs.Prelude.{ℕ, ◌-◌, ◌≤◌, ◌<◌, ◌≡◌, List, length, get_or, drop}
 use Rattle.verdict.specs.Lists.{Words, Table}
-use Rattle.verdict.specs.declared.Verdict.{Verdict}
 use Rattle.network.specs.Network.{block_count}
-use Rattle.verdict.specs.Verdict.{verdict}
+use Rattle.verdict.specs.Verdict.{Verdict, verdict}
 use Rattle.network.specs.Check.{checked, network_in}
 use Rattle.blocks.specs.declared.Outputs.{Outputs}
 use Rattle.inputs.specs.Input.{of_block}

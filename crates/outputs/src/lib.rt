@@ -1,90 +1,59 @@
-// One scan whose outputs come back in a lent list of records, one for each block.
-//
-// The scan is done on packed numbers, in a list of its own (`numbered`). `fill` and `scan`, in whose bodies a list of records
-// stands, only move what the numbers say into it.
+// One scan whose outputs come back in a lent list of records, one for each block. It is done on packed numbers, in a list
+// of its own.
 #![tactic(auto)]
 
-ghost use Rattle.std.specs.Prelude.{◌≡◌, map, ◌++◌, ◌<◌, ◌≤◌, min, length, take, drop, get_or};
-ghost use Rattle.network.specs.Check.{most_blocks};
+ghost use Rattle.std.specs.Prelude.{◌≡◌, map, ◌++◌, ◌≤◌, length, drop};
+ghost use Rattle.verdict.specs.Verdict.{numbered, said_by};
+ghost use Rattle.network.specs.Network.{block_count};
+ghost use Rattle.network.specs.Check.{network_in};
 ghost use Rattle.blocks.specs.Packed.{unpacked};
-ghost use Rattle.outputs.specs.Records.{Recorded};
-ghost use Rattle.outputs.specs.Inner.{Numbered};
+ghost use Rattle.scan.specs.Scan.{scan_verdict, scan_table, scan_records};
+ghost use Rattle.outputs.specs.Inner.{Spelled};
 
 pub use blocks::Outputs;
+use blocks::unpacked;
 use network::MOST_BLOCKS;
-use verdict::Verdict;
+use verdict::Refusal;
 
-// The verdict on a scan, and the numbers of its blocks' outputs in front of a list: none where it is refused.
-#[derive(Drop)]
-struct Numbers {
-    verdict: Verdict,
-    count: usize,
-    numbers: [u16; MOST_BLOCKS],
-}
-
-// The smaller of a number of entries and the most blocks of a network.
-fn at_most_blocks(room: usize) -> usize
-    ensures { result ≡ min room most_blocks }
+// The numbers as records at the front of a list, by index: of what an iterator over mutable entries has written,
+// nothing is known afterwards.
+fn fill(outputs: &mut [Outputs], numbers: &[u16])
+    requires { length numbers.now ≤ length outputs.old }
+    ensures { outputs.new ≡ map unpacked numbers.now ++ drop (length numbers.now) outputs.old }
 {
-    if room < MOST_BLOCKS {
-        return room;
-    }
-    MOST_BLOCKS
-}
-
-// A scan for a list of records that has so many entries, as packed numbers.
-fn numbered(words: &[u16], table: &mut [u16], room: usize) -> Numbers
-    ensures { Numbered words.now table.old room result table.new }
-{
-    let mut numbers = [0u16; MOST_BLOCKS];
-    let entries = at_most_blocks(room);
-    let verdict = scan::scan_packed(words, table, &mut numbers[..entries]);
-    if verdict.number != 0 {
-        return Numbers {
-            verdict,
-            count: 0,
-            numbers,
-        };
-    }
-    Numbers {
-        verdict,
-        count: network::block_count(words) as usize,
-        numbers,
+    for (k, number) in numbers.iter().enumerate() {
+        outputs[k] = unpacked(*number);
     }
 }
 
-// The outputs and the count that a number of a list spells.
-fn outputs_of(numbers: &[u16], k: usize) -> Outputs
-    requires { k < length numbers.now }
-    ensures { result ≡ unpacked (get_or numbers.now k 0) }
+// A scan for a list of so many entries, as packed numbers at the front of a list; the answer is how many there are.
+#[tactic(auto, using(crate::proofs::Recording::refusal_told))]
+fn numbers_of(
+    words: &[u16],
+    table: &mut [u16],
+    room: usize,
+    numbers: &mut [u16; MOST_BLOCKS],
+) -> Result<usize, Refusal>
+    ensures answer { numbered result ≡ said_by
+        (scan_verdict words.now (length table.old) room) (block_count (network_in words.now)) }
+    ensures table { table.new ≡ scan_table words.now table.old room }
+    ensures numbers { Spelled words.now table.old room numbers.new }
 {
-    let number = numbers[k];
-    Outputs {
-        top: bits::bit_at(number, 16),
-        middle: bits::bit_at(number, 15),
-        bottom: bits::bit_at(number, 14),
-        count: number / 8,
-    }
+    let room = room.min(MOST_BLOCKS);
+    scan::scan_packed(words, table, &mut numbers[..room])?;
+    Ok(network::block_count(words) as usize)
 }
 
-// The first numbers as records at the front of a list.
-fn fill(outputs: &mut [Outputs], numbers: &[u16], count: usize)
-    requires { (count ≤ length outputs.old) × (count ≤ length numbers.now) }
-    ensures { outputs.new ≡ map unpacked (take count numbers.now) ++ drop count outputs.old }
+/// One scan of the network that the words spell, on the table of its areas. Each block's outputs come back in a record of
+/// the list; entries after the last block's stay. A table of another size is refused, and so is a list that is shorter
+/// than the count of blocks.
+pub fn scan(words: &[u16], table: &mut [u16], outputs: &mut [Outputs]) -> Result<(), Refusal>
+    ensures answer { numbered result ≡ said_by (scan_verdict words.now (length table.old) (length outputs.old)) tt }
+    ensures table { table.new ≡ scan_table words.now table.old (length outputs.old) }
+    ensures outputs { outputs.new ≡ scan_records words.now table.old outputs.old }
 {
-    let mut k = 0;
-    while k < count {
-        outputs[k] = outputs_of(numbers, k);
-        k += 1;
-    }
-}
-
-// One scan of the network that the words spell, on the table of its areas. Each block's outputs come back in a record of the list;
-// entries after the last block's stay.
-pub fn scan(words: &[u16], table: &mut [u16], outputs: &mut [Outputs]) -> Verdict
-    ensures { Recorded words.now table.old outputs.old result table.new outputs.new }
-{
-    let ran = numbered(words, table, outputs.len());
-    fill(outputs, &ran.numbers, ran.count);
-    ran.verdict
+    let mut numbers = [0; MOST_BLOCKS];
+    let count = numbers_of(words, table, outputs.len(), &mut numbers)?;
+    fill(outputs, &numbers[..count]);
+    Ok(())
 }

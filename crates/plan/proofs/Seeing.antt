@@ -6,7 +6,7 @@ use Prim.Native.Nat.{ℕ, zero, suc, ◌+◌, ◌-◌, ◌*◌, ◌/◌, ◌%◌
 use native.Mathlib.Nat.{pow-suc, zero-add}
 use native.Mathlib.Omega.{arith}
 use borrow.Author.Tests.{eq-eqb, ne_eqb}
-use lib.Bits.{bit_and, and_high, and_zero_r}
+use lib.Bits.{bit_and, and_high}
 use lib.Dec.{eqb}
 use lib.ListN.{get_or, take, drop}
 use lib.Pow.{pow_pos, pow_mono}
@@ -23,9 +23,10 @@ use Rattle.blocks.specs.declared.Outputs.{Outputs}
 use Rattle.blocks.specs.Packed.{unpacked}
 use Rattle.inputs.specs.Input.{of_block, passes}
 use Rattle.inputs.proofs.Wired.{contact_bit, block_unpacked}
-use Rattle.plan.specs.declared.Look.{Look}
-use Rattle.plan.specs.Plan.{mask_of, looks, look_of}
-use Rattle.plan.specs.Seen.{sees}
+use Rattle.plan.specs.declared.Look.TheVariants.{Contact, Earlier}
+use Rattle.plan.specs.declared.Output.TheVariants.{Top, Middle, Bottom}
+use Rattle.plan.specs.Plan.{mask_of, look_of}
+use Rattle.plan.specs.Seen.{sees, look_inside}
 
 -- ---- a masked word
 last_times : (r m : ℕ) → r < 2 → r * m ≡ cond (eqb r 1) m 0
@@ -78,11 +79,11 @@ module _ (words : ℕ) (state : List ℕ) (s n number : ℕ) (inside : s + n ≤
       ap₂ of (sym (get_or-take words state (s + (number - 1) / 16) 0 (omega arith))) one
       ∙ contact_bit (take words state) s n number (λ e. omega arith) (omega arith)
 
-  open_seen : sees state (looks (s + (number - 1) / 16) (mask_of (number - 1)) (mask_of (number - 1))) ≡ bit (run (take words state) s n) number
+  open_seen : sees state words (Contact (s + (number - 1) / 16) (mask_of (number - 1)) (mask_of (number - 1))) ≡ bit (run (take words state) s n) number
   unfolding place
   open_seen = seen_on (get_or state (s + (number - 1) / 16) 0) place (omega arith) ∙ bit_seen
 
-  closed_seen : sees state (looks (s + (number - 1) / 16) (mask_of (number - 1)) 0) ≡ not (bit (run (take words state) s n) number)
+  closed_seen : sees state words (Contact (s + (number - 1) / 16) (mask_of (number - 1)) 0) ≡ not (bit (run (take words state) s n) number)
   unfolding place
   closed_seen = seen_off (get_or state (s + (number - 1) / 16) 0) place (omega arith) ∙ ap not bit_seen
 
@@ -93,13 +94,13 @@ module _ (words : ℕ) (state : List ℕ) (earlier number : ℕ) (low : 1 ≤ nu
       ap unpacked (sym (get_or-take earlier (drop words state) (number - 1) 0 (omega arith) ∙ get_or-drop words state (number - 1) 0))
       ∙ sym (block_unpacked (take earlier (drop words state)) number)
 
-  top_seen : sees state (looks (words + (number - 1)) 1 1) ≡ (of_block (map unpacked (take earlier (drop words state))) number).top
+  top_seen : sees state words (Earlier (number - 1) Top) ≡ (of_block (map unpacked (take earlier (drop words state))) number).top
   top_seen = seen_on (get_or state (words + (number - 1)) 0) 15 (omega arith) ∙ ap (λ (out : Outputs). out.top) block_seen
 
-  middle_seen : sees state (looks (words + (number - 1)) 2 2) ≡ (of_block (map unpacked (take earlier (drop words state))) number).middle
+  middle_seen : sees state words (Earlier (number - 1) Middle) ≡ (of_block (map unpacked (take earlier (drop words state))) number).middle
   middle_seen = seen_on (get_or state (words + (number - 1)) 0) 14 (omega arith) ∙ ap (λ (out : Outputs). out.middle) block_seen
 
-  bottom_seen : sees state (looks (words + (number - 1)) 4 4) ≡ (of_block (map unpacked (take earlier (drop words state))) number).bottom
+  bottom_seen : sees state words (Earlier (number - 1) Bottom) ≡ (of_block (map unpacked (take earlier (drop words state))) number).bottom
   bottom_seen = seen_on (get_or state (words + (number - 1)) 0) 13 (omega arith) ∙ ap (λ (out : Outputs). out.bottom) block_seen
 
 -- ---- a look by its input's code
@@ -114,17 +115,17 @@ module _ (net : Network) (earlier : ℕ) (state : List ℕ) where
   before = map unpacked (take earlier (drop words state))
 
   by_code : (code number : ℕ) → GoodInput net.sizes earlier (coded code number)
-      → sees state (look_of net.sizes (coded code number)) ≡ passes net (take words state) before (coded code number)
+      → sees state words (look_of net.sizes (coded code number)) ≡ passes net (take words state) before (coded code number)
   unfolding words before look_of passes
-  by_code zero number g = ap (λ (x : ℕ). eqb x 1) (and_zero_r (get_or state 0 0))
-  by_code (suc zero) number g = ap (λ (x : ℕ). eqb x 0) (and_zero_r (get_or state 0 0))
+  by_code zero number g = refl
+  by_code (suc zero) number g = refl
   by_code (suc (suc zero)) number g =
       let h = g.coil (omega arith) (omega arith) in
-      ap (λ (i : ℕ). sees state (looks i (mask_of (number - 1)) (mask_of (number - 1)))) (sym (zero-add ((number - 1) / 16)))
+      ap (λ (i : ℕ). sees state words (Contact i (mask_of (number - 1)) (mask_of (number - 1)))) (sym (zero-add ((number - 1) / 16)))
       ∙ open_seen words state 0 net.sizes.coils number (omega arith) h.0 h.1
   by_code (suc (suc (suc zero))) number g =
       let h = g.coil (omega arith) (omega arith) in
-      ap (λ (i : ℕ). sees state (looks i (mask_of (number - 1)) 0)) (sym (zero-add ((number - 1) / 16)))
+      ap (λ (i : ℕ). sees state words (Contact i (mask_of (number - 1)) 0)) (sym (zero-add ((number - 1) / 16)))
       ∙ closed_seen words state 0 net.sizes.coils number (omega arith) h.0 h.1
   by_code (suc (suc (suc (suc zero)))) number g =
       let h = g.contact (omega arith) (omega arith) in
@@ -141,14 +142,14 @@ module _ (net : Network) (earlier : ℕ) (state : List ℕ) where
   by_code (suc (suc (suc (suc (suc (suc (suc (suc (suc code))))))))) number g = absurd (omega (arith, g.known))
 
 pub look_passes : (net : Network) (earlier : ℕ) (input : Input) → GoodInput net.sizes earlier input → (state : List ℕ)
-    → sees state (look_of net.sizes input)
+    → sees state (total net.sizes) (look_of net.sizes input)
     ≡ passes net (take (total net.sizes) state) (map unpacked (take earlier (drop (total net.sizes) state))) input
 unfolding words before
 look_passes net earlier input g state = by_code net earlier state input.code input.number g
 
 -- ---- where a look looks, and its mask
 module _ (z : Sizes) (earlier count : ℕ) (few : earlier ≤ count) (some : 0 < count) where
-  room_by_code : (code number : ℕ) → GoodInput z earlier (coded code number) → (look_of z (coded code number)).at < total z + count
+  room_by_code : (code number : ℕ) → GoodInput z earlier (coded code number) → look_inside (total z + count) (total z) (look_of z (coded code number))
   unfolding look_of
   room_by_code zero number g = omega arith
   room_by_code (suc zero) number g = omega arith
@@ -161,31 +162,5 @@ module _ (z : Sizes) (earlier count : ℕ) (few : earlier ≤ count) (some : 0 <
   room_by_code (suc (suc (suc (suc (suc (suc (suc (suc zero)))))))) number g = let h = g.block (omega arith) in omega arith
   room_by_code (suc (suc (suc (suc (suc (suc (suc (suc (suc code))))))))) number g = absurd (omega (arith, g.known))
 
-  pub look_room : (input : Input) → GoodInput z earlier input → (look_of z input).at < total z + count
+  pub look_room : (input : Input) → GoodInput z earlier input → look_inside (total z + count) (total z) (look_of z input)
   look_room input g = room_by_code input.code input.number g
-
-abbrev Low : Look → Type 0
-Low l = (l.mask ≤ 32768) × (l.wanted ≤ 32768)
-
-either_low : (a : Bool) (x y : Look) → Low x → Low y → Low (cond a x y)
-either_low true x y h l = h
-either_low false x y h l = l
-
-look_low : (z : Sizes) (input : Input) → Low (look_of z input)
-unfolding look_of
-look_low z input =
-    let m = mask_high (input.number - 1) in
-    either_low (eqb input.code 0) _ _ (omega arith, omega arith)
-    (either_low (eqb input.code 1) _ _ (omega arith, omega arith)
-    (either_low (eqb input.code 2) _ _ (m, m)
-    (either_low (eqb input.code 3) _ _ (m, omega arith)
-    (either_low (eqb input.code 4) _ _ (m, m)
-    (either_low (eqb input.code 5) _ _ (m, omega arith)
-    (either_low (eqb input.code 6) _ _ (omega arith, omega arith)
-    (either_low (eqb input.code 7) _ _ (omega arith, omega arith) (omega arith, omega arith))))))))
-
-pub look_mask : (z : Sizes) (input : Input) → (look_of z input).mask ≤ 32768
-look_mask z input = (look_low z input).0
-
-pub look_wanted : (z : Sizes) (input : Input) → (look_of z input).wanted ≤ 32768
-look_wanted z input = (look_low z input).1

@@ -3,15 +3,13 @@ use mathlib.Core.Path.{◌≡◌, refl, sym, ap, ◌∙◌, subst}
 use mathlib.Core.Bool.{Bool, true, false, not, cond, ◌&&◌, ◌||◌}
 use mathlib.Core.List.{List, [], ◌∷◌, ◌++◌}
 use Prim.Native.Nat.{ℕ, zero, suc, ◌+◌, ◌-◌, ◌*◌, ◌/◌, ◌%◌, ◌^◌, ◌≤◌, ◌<◌}
-use native.Mathlib.Nat.{zero-add, mod-eq_of_lt}
-use native.Mathlib.Decide.{ℕ_discrete}
+use native.Mathlib.Nat.{zero-add}
 use native.Mathlib.Omega.{arith}
-use borrow.Author.Tests.{eq-eqb, ne_eqb}
-use lib.Bits.{bit_and, bit_or, and_lt, or_lt, or_zero_r, and_mask}
-use lib.Dec.{eqb}
+use borrow.Author.Tests.{ne_eqb}
+use lib.Bits.{and_lt, or_lt}
 use lib.ListN.{length, get_or, take, set, get_or-append}
 use lib.Pow.{pow-lt}
-use lib.Seq.{set-append_left, set-get_or}
+use lib.Seq.{set-append_left}
 use Rattle.bits.specs.Bit.{of, word_with}
 use Rattle.bits.specs.Word.{put}
 use Rattle.bits.proofs.Laws.{word_of, and_of, or_of, complement_of, one_of}
@@ -26,7 +24,8 @@ use Rattle.blocks.specs.Work.{coil_put, coils_put}
 use Rattle.blocks.proofs.Puts.{coil_length}
 use Rattle.plan.specs.declared.Spot.{Spot}
 use Rattle.plan.specs.Plan.{mask_of, spot, spot_of}
-use Rattle.plan.specs.Seen.{spot_put}
+use Rattle.plan.specs.Seen.{masked, spot_put, spot_inside}
+use Rattle.std.specs.Prelude.{Option, Some, None}
 use Rattle.plan.proofs.Seeing.{mask_high}
 
 -- every word of a list is below 2 ^ 16, as it is of a lent one
@@ -47,11 +46,7 @@ small_take (suc n) (w ∷ s) h zero = h zero
 small_take (suc n) (w ∷ s) h (suc k) = small_take n s (λ j. h (suc j)) k
 
 -- ---- a word with the mask's bit put
-unfoldable pub masked : ℕ → ℕ → Bool → ℕ
-masked w m on = cond on (bit_or w m) (bit_and w (65535 - m))
-
 masked_small : (w m : ℕ) (on : Bool) → w < 2 ^ 16 → m < 2 ^ 16 → masked w m on < 2 ^ 16
-unfolding masked
 masked_small w m true h l = or_lt 16 w m h l
 masked_small w m false h l = and_lt 16 w (65535 - m) h (omega arith)
 
@@ -67,7 +62,6 @@ masked_table false false false = refl
 
 masked_of : (w m i : ℕ) (on : Bool) → m < 2 ^ 16 → i < 16
     → of (masked w m on) (suc i) ≡ cond on (of w (suc i) || of m (suc i)) (of w (suc i) && not (of m (suc i)))
-unfolding masked
 masked_of w m i true h l = or_of w m i l
 masked_of w m i false h l = and_of w (65535 - m) i l ∙ ap (λ (e : Bool). of w (suc i) && e) (complement_of m i h l)
 
@@ -82,39 +76,9 @@ masked_put w j on h l =
     ∙ masked_table (of w (suc i)) (of m (suc i)) on
     ∙ ap (λ (e : Bool). cond e on (of w (suc i))) (ap (λ (n : ℕ). of (2 ^ n) (suc i)) worth ∙ one_of (j + 1) i (λ e. omega arith) (omega arith) k))
 
-masked_none : (w : ℕ) (on : Bool) → w < 2 ^ 16 → masked w 0 on ≡ w
-unfolding masked
-masked_none w true h = or_zero_r w
-masked_none w false h = and_mask w 16 ∙ mod-eq_of_lt h
-
--- ---- a spot put, as the code puts it: on by `|`, off by `&` with the complement; with no mask both leave the word, and so does doing nothing
-module _ (s : List ℕ) (p : Spot) (on : Bool) where
-  pub spot_none : p.mask ≡ 0 → s ≡ spot_put s p on
-  unfolding spot_put masked
-  spot_none e = ap (λ (a : Bool). cond a s (set s p.at (masked (get_or s p.at 0) p.mask on))) (sym (eq-eqb p.mask 0 e))
-
-  pub spot_stored : get_or s p.at 0 < 2 ^ 16 → set s p.at (masked (get_or s p.at 0) p.mask on) ≡ spot_put s p on
-  unfolding spot_put masked
-  spot_stored h = elim (ℕ_discrete p.mask 0) [
-    | yes e ↦
-        ap (λ (m : ℕ). set s p.at (masked (get_or s p.at 0) m on)) e
-        ∙ ap (set s p.at) (masked_none (get_or s p.at 0) on h)
-        ∙ set-get_or s p.at 0
-        ∙ spot_none e
-    | no n ↦ ap (λ (a : Bool). cond a s (set s p.at (masked (get_or s p.at 0) p.mask on))) (sym (ne_eqb p.mask 0 n))
-  ]
-
-  pub spot_on : on ≡ true → get_or s p.at 0 < 2 ^ 16 → set s p.at (bit_or (get_or s p.at 0) p.mask) ≡ spot_put s p on
-  unfolding masked
-  spot_on e h = ap (λ (b : Bool). set s p.at (masked (get_or s p.at 0) p.mask b)) (sym e) ∙ spot_stored h
-
-  pub spot_off : on ≡ false → get_or s p.at 0 < 2 ^ 16 → set s p.at (bit_and (get_or s p.at 0) (65535 - p.mask)) ≡ spot_put s p on
-  unfolding masked
-  spot_off e h = ap (λ (b : Bool). set s p.at (masked (get_or s p.at 0) p.mask b)) (sym e) ∙ spot_stored h
-
-pub spot_named : (number : ℕ) → (number ≡ 0 → ⊥) → spot_of number ≡ spot ((number - 1) / 16) (mask_of (number - 1))
+pub spot_named : (number : ℕ) → (number ≡ 0 → ⊥) → spot_of number ≡ Some (spot ((number - 1) / 16) (mask_of (number - 1)))
 unfolding spot_of
-spot_named number h = ap (λ (a : Bool). cond a (spot 0 0) (spot ((number - 1) / 16) (mask_of (number - 1)))) (ne_eqb number 0 h)
+spot_named number h = ap (λ (a : Bool). cond a None (Some (spot ((number - 1) / 16) (mask_of (number - 1))))) (ne_eqb number 0 h)
 
 -- ---- a coil that has a number
 module _ (net : Network) (number : ℕ) (some : number ≡ 0 → ⊥) (few : number ≤ 16 * net.sizes.coils) (t : List ℕ) (long : length t ≡ total net.sizes) (small : Small t) (on : Bool) where
@@ -144,8 +108,7 @@ module _ (net : Network) (number : ℕ) (some : number ≡ 0 → ⊥) (few : num
       let i : ℕ = (number - 1) / 16 in
       let inside : i < length t = omega arith in
       let same : get_or (t ++ r) i 0 ≡ get_or t i 0 = get_or-append t r 0 i inside in
-      ap (λ (p : Spot). spot_put (t ++ r) p on) (spot_named number some)
-      ∙ sym (spot_stored (t ++ r) (spot i (mask_of (number - 1))) on (subst (λ (w : ℕ). w < 2 ^ 16) (sym same) (small i)))
+      ap (λ (p : Option Spot). spot_put (t ++ r) p on) (spot_named number some)
       ∙ ap (λ (w : ℕ). set (t ++ r) i (masked w (mask_of (number - 1)) on)) same
       ∙ set-append_left t r i _ inside
 
@@ -153,7 +116,7 @@ module _ (net : Network) (number : ℕ) (some : number ≡ 0 → ⊥) (few : num
 module _ (net : Network) where
   pub spot_coil : (number : ℕ) → number ≤ 16 * net.sizes.coils → (t r : List ℕ) → length t ≡ total net.sizes → Small t → (on : Bool)
       → spot_put (t ++ r) (spot_of number) on ≡ coil_put net number on t ++ r
-  unfolding spot_put spot_of coil_put
+  unfolding spot_of coil_put
   spot_coil zero few t r long small on = refl
   spot_coil (suc i) few t r long small on =
       let some : suc i ≡ 0 → ⊥ = λ e. omega arith in
@@ -187,18 +150,10 @@ module _ (net : Network) where
       ∙ ap (λ (s : List ℕ). spot_put s (spot_of coils.bottom) out.bottom) (spot_coil coils.middle middle one r one_long one_small out.middle)
       ∙ spot_coil coils.bottom bottom two r two_long two_small out.bottom
 
--- ---- where a spot stands, and its mask
-pub spot_room : (z : Sizes) (number : ℕ) → number ≤ 16 * z.coils → ((spot_of number).mask ≡ 0 → ⊥) → (spot_of number).at < total z
+-- ---- where a spot stands
+pub spot_room : (z : Sizes) (number : ℕ) → number ≤ 16 * z.coils → (words : ℕ) → total z ≤ words → spot_inside words (spot_of number)
 unfolding spot_of
-spot_room z zero few some = absurd (some refl)
-spot_room z (suc i) few some =
-    let e : spot_of (suc i) ≡ spot ((suc i - 1) / 16) (mask_of (suc i - 1)) = spot_named (suc i) (λ q. omega arith) in
-    omega (arith, ap (λ (p : Spot). p.at) e)
-
-pub spot_mask : (number : ℕ) → (spot_of number).mask ≤ 32768
-unfolding spot_of
-spot_mask number = go (eqb number 0)
-  where
-    go : (a : Bool) → (cond a (spot 0 0) (spot ((number - 1) / 16) (mask_of (number - 1)))).mask ≤ 32768
-    go true = omega arith
-    go false = mask_high (number - 1)
+spot_room z zero few words l = omega arith
+spot_room z (suc i) few words l =
+    let low : (suc i - 1) / 16 < words = omega (arith, few, l) in
+    subst (spot_inside words) (sym (spot_named (suc i) (λ q. omega arith))) low

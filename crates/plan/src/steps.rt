@@ -1,127 +1,153 @@
-// The numbers of one block: where its inputs look, the spots of its coils, and these in their order.
-ghost use Rattle.std.specs.Prelude.{◌≡◌, ◌+◌, ◌-◌, ◌≤◌, length};
-ghost use Rattle.std.proofs.Math.Seq.{paste};
+// The step of one block: its work, where its inputs look, the spots of its coils.
+ghost use Rattle.std.specs.Prelude.{◌≡◌};
 ghost use Rattle.table.specs.Table.{start_of};
-ghost use Rattle.plan.specs.Plan.{looks, mask_of, look_of, spot_of, step_words};
+ghost use Rattle.kinds.specs.declared.task.Work.TheVariants.{Combine};
+ghost use Rattle.plan.specs.declared.Look.TheVariants.{Contact, Earlier};
+ghost use Rattle.plan.specs.Plan.{mask_of, look_of, spot_of, place_of, work_of, step_of};
 
-use crate::{Look, STEP, Spot};
+use crate::{Look, Output, Spot, Step};
+use kinds::{Place, Work};
+use matrix::Operation;
 use record::{Block, Input, Node};
+use rules::{Kind, Source};
 use table::Sizes;
 
-// How many stand before what is numbered from 1; before number 0 none.
-fn before(number: u16) -> u32
-    ensures { result ≡ number - 1 }
-{
-    if number == 0 {
-        return 0;
-    }
-    number as u32 - 1
-}
-
 // The bit in its word of the discrete that so many stand before.
-fn mask_of(i: u32) -> u32
+fn mask_of(i: u32) -> u16
     ensures { result ≡ mask_of i }
 {
-    1u32 << (15 - i % 16)
+    1u16 << (15 - i % 16)
 }
 
-// A look at an index.
-fn looks(at: u32, mask: u32, wanted: u32) -> Look
-    ensures { result ≡ looks at mask wanted }
+// A contact that passes power where its masked word is the wanted one: the mask where it is open, 0 where it is closed.
+fn contact(at: u32, mask: u16, wanted: u16) -> Look
+    ensures { result ≡ Contact at mask wanted }
 {
-    Look { at, mask, wanted }
+    Look::Contact { at, mask, wanted }
 }
 
-// Where an input looks.
+// An output of the block that so many are before.
+fn earlier(block: u16, output: Output) -> Look
+    ensures { result ≡ Earlier block output }
+{
+    Look::Earlier { block, output }
+}
+
+// Where an input looks. A code that stands for nothing is read as that of a bottom output.
+#[tactic(auto, unfolding(crate::specs::Plan::look_of))]
 fn look_of(sizes: Sizes, input: Input) -> Look
     ensures { result ≡ look_of sizes input }
 {
-    let i = before(input.number);
+    let before = input.number.saturating_sub(1);
+    let i = before as u32;
     let mask = mask_of(i);
     let coil = i / 16;
     let discrete = sizes.coils as u32 + coil;
-    let output = table::total(sizes) + i;
-    let code = input.code;
-    match code {
-        0 => looks(0, 0, 1),
-        1 => looks(0, 0, 0),
-        2 => looks(coil, mask, mask),
-        3 => looks(coil, mask, 0),
-        4 => looks(discrete, mask, mask),
-        5 => looks(discrete, mask, 0),
-        6 => looks(output, 1, 1),
-        7 => looks(output, 2, 2),
-        _ => looks(output, 4, 4),
+    match Source::try_from(input.code).unwrap_or(Source::BottomOutput) {
+        Source::Never => Look::Fixed(false),
+        Source::Always => Look::Fixed(true),
+        Source::OpenCoil => contact(coil, mask, mask),
+        Source::ClosedCoil => contact(coil, mask, 0),
+        Source::OpenDiscrete => contact(discrete, mask, mask),
+        Source::ClosedDiscrete => contact(discrete, mask, 0),
+        Source::TopOutput => earlier(before, Output::Top),
+        Source::MiddleOutput => earlier(before, Output::Middle),
+        Source::BottomOutput => earlier(before, Output::Bottom),
     }
 }
 
-// The spot of a coil.
-fn spot_of(number: u16) -> Spot
+// The spot of a coil, if it has one.
+#[tactic(auto, unfolding(crate::specs::Plan::spot_of))]
+fn spot_of(number: u16) -> Option<Spot>
     ensures { result ≡ spot_of number }
 {
-    if number == 0 {
-        return Spot { at: 0, mask: 0 };
-    }
-    let i = number as u32 - 1;
-    Spot {
+    let i = number.checked_sub(1)? as u32;
+    Some(Spot {
         at: i / 16,
         mask: mask_of(i),
-    }
+    })
 }
 
 // The index of a node's first word in the table.
+#[tactic(auto, using(crate::proofs::Starts::start_small))]
 fn start_of(sizes: Sizes, node: Node) -> u32
     ensures { result ≡ start_of sizes node.class node.number }
 {
     table::start(sizes, node.class, node.number) as u32
 }
 
-// The numbers of a block.
-pub(crate) fn step_of(sizes: Sizes, b: Block) -> [u32; STEP]
-    ensures { result ≡ step_words sizes b }
+// A pointer's place.
+#[tactic(auto, unfolding(crate::specs::Plan::place_of))]
+fn place_of(sizes: Sizes, node: Node) -> Place
+    ensures { result ≡ place_of sizes node }
 {
-    let top = look_of(sizes, b.inputs.top);
-    let middle = look_of(sizes, b.inputs.middle);
-    let bottom = look_of(sizes, b.inputs.bottom);
-    let top_coil = spot_of(b.coils.top);
-    let middle_coil = spot_of(b.coils.middle);
-    let bottom_coil = spot_of(b.coils.bottom);
-    [
-        b.kind as u32,
-        b.n as u32,
-        start_of(sizes, b.top),
-        start_of(sizes, b.middle),
-        b.top.class as u32,
-        b.top.number as u32,
-        top.at,
-        top.mask,
-        top.wanted,
-        middle.at,
-        middle.mask,
-        middle.wanted,
-        bottom.at,
-        bottom.mask,
-        bottom.wanted,
-        top_coil.at,
-        top_coil.mask,
-        middle_coil.at,
-        middle_coil.mask,
-        bottom_coil.at,
-        bottom_coil.mask,
-        0,
-        0,
-        0,
-    ]
+    Place::of(node, table::start(sizes, node.class, node.number))
 }
 
-// The numbers of a block, put into a plan from an index on.
-pub(crate) fn put_step(plan: &mut [u32], from: usize, step: [u32; STEP])
-    requires { (from + 24 ≤ length plan.old) × (length step ≡ 24) }
-    ensures { plan.new ≡ paste plan.old from step 24 }
+// AND, OR, XOR or COMP.
+fn combine(operation: Operation, source: u32, destination: u32) -> Work
+    ensures { result ≡ Combine operation source destination }
 {
-    let mut j = 0;
-    while j < STEP {
-        plan[from + j] = step[j];
-        j += 1;
+    Work::Combine {
+        operation,
+        source,
+        destination,
+    }
+}
+
+// A block's work. That of a number that is of no kind is refused.
+#[tactic(auto, unfolding(crate::specs::Plan::work_of))]
+fn work_of(sizes: Sizes, block: Block) -> Work
+    ensures { result ≡ work_of sizes block }
+{
+    let Ok(kind) = Kind::try_from(block.kind) else {
+        return Work::Unknown;
+    };
+    let source = start_of(sizes, block.top);
+    let destination = start_of(sizes, block.middle);
+    match kind {
+        Kind::And => combine(Operation::And, source, destination),
+        Kind::Or => combine(Operation::Or, source, destination),
+        Kind::Xor => combine(Operation::Xor, source, destination),
+        Kind::Comp => combine(Operation::Comp, source, destination),
+        Kind::Cmpr => Work::Compare {
+            source,
+            pointer: destination,
+        },
+        Kind::Mbit => Work::Modify {
+            pointer: place_of(sizes, block.top),
+            matrix: destination,
+        },
+        Kind::Sens => Work::Sense {
+            pointer: place_of(sizes, block.top),
+            matrix: destination,
+        },
+        Kind::Brot => Work::Rotate {
+            source,
+            destination,
+        },
+    }
+}
+
+// The step of a block.
+#[tactic(auto, unfolding(crate::specs::Plan::step_of))]
+pub(crate) fn step_of(sizes: Sizes, block: Block) -> Step
+    ensures { result ≡ step_of sizes block }
+{
+    let inputs = block.inputs;
+    let coils = block.coils;
+    Step {
+        work: work_of(sizes, block),
+        n: block.n,
+        inputs: [
+            look_of(sizes, inputs.top),
+            look_of(sizes, inputs.middle),
+            look_of(sizes, inputs.bottom),
+        ],
+        coils: [
+            spot_of(coils.top),
+            spot_of(coils.middle),
+            spot_of(coils.bottom),
+        ],
     }
 }

@@ -19,6 +19,23 @@ module _ (words n s p : ℕ) where
   pub register_inside : p < words → compare_fault words n s p ≡ fault longest_whole words n s (p + 1)
   register_inside l = ap (λ (a : Bool). cond a (fault longest_whole words n s (p + 1)) 8) (lt-ltb p words l)
 
+  -- a block that earns no refusal
+  inside_of : 0 ≡ compare_fault words n s p → p < words
+  inside_of z = go (ltb p words) refl z
+    where
+      go : (a : Bool) → ltb p words ≡ a → 0 ≡ cond a (fault longest_whole words n s (p + 1)) 8 → p < words
+      go true e q = ltb-true p words e
+      go false e q = absurd (omega arith)
+
+pub register_lies_in : (words n s p : ℕ) → 0 ≡ compare_fault words n s p → p < words
+register_lies_in words n s p z = inside_of words n s p z
+
+pub runs_taken : (words n s p : ℕ) → 0 ≡ compare_fault words n s p → fault longest_whole words n s (p + 1) ≡ 0
+runs_taken words n s p z = sym (register_inside words n s p (inside_of words n s p z)) ∙ sym z
+
+pub compared_accepted : (words n s p : ℕ) → 0 ≡ compare_fault words n s p → Accepted longest_whole words n s (p + 1)
+compared_accepted words n s p z = accepted longest_whole words n s (p + 1) (runs_taken words n s p z)
+
 -- ---- MBIT and SENS
 module _ (words : ℕ) (node : Node) (register n d : ℕ) where
   pub run_refused : (fault longest words n d d ≡ 0 → ⊥) → pointed_fault words node register n d ≡ fault longest words n d d
@@ -56,3 +73,6 @@ module _ (words : ℕ) (node : Node) (register n d : ℕ) where
       go : (a : Bool) → ltb register words ≡ a → ◌≡◌ {A = ℕ} (cond a 0 8) 0 → register < words
       go true e q = ltb-true register words e
       go false e q = absurd (omega arith)
+
+pub pointed_accepted : (words : ℕ) (node : Node) (register n d : ℕ) → 0 ≡ pointed_fault words node register n d → Accepted longest words n d d
+pointed_accepted words node register n d z = run_accepted words node register n d (sym z)

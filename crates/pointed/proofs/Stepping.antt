@@ -1,5 +1,5 @@
 -- The laws of a bit put or read at a pointer, and of the pointer's steps where they are asked for. Assumes nothing.
-use mathlib.Core.Path.{◌≡◌, refl, sym, ap, ap₂, ◌∙◌}
+use mathlib.Core.Path.{◌≡◌, refl, sym, ap, ap₂, ◌∙◌, subst}
 use mathlib.Core.Bool.{Bool, true, false, cond, ◌&&◌, ◌||◌}
 use mathlib.Core.List.{List, []}
 use mathlib.Core.Option.{Option, none, some}
@@ -7,19 +7,26 @@ use Prim.Native.Nat.{ℕ, ◌*◌, ◌≤◌, ◌<◌}
 use native.Mathlib.Omega.{arith}
 use borrow.Author.Tests.{lt-ltb, le-ltb}
 use lib.Dec.{eqb, ltb}
+use lib.ListN.{length}
 use Rattle.bits.specs.Bit.{bit, longest}
 use Rattle.pointer.specs.declared.Pointer.{Pointer}
 use Rattle.runs.specs.Run.{run}
 use Rattle.pointer.specs.Pointer.{reset, advanced, set_to, next_of}
 use Rattle.pointer.proofs.Pointers.{size_right, reset_to}
+use Rattle.std.specs.Prelude.{Result, Ok}
+use Rattle.verdict.specs.declared.Refusal.{Refusal}
+use Rattle.record.specs.declared.Node.{Node}
 use Rattle.blocks.specs.declared.Power.{Power}
-use Rattle.blocks.specs.View.{seen}
+use Rattle.blocks.specs.declared.Outputs.{Outputs}
+use Rattle.blocks.specs.View.{seen, pointer_at}
+use Rattle.blocks.specs.Answer.{worked, Does}
 use Rattle.blocks.specs.Effect.{Effect, effect, idle, into, increased, modify, sense}
 use Rattle.blocks.specs.Effect.Change.{stays}
 use Rattle.blocks.specs.Work.{matrix_put, change_put, one_word, shows}
-use Rattle.pointed.specs.Call.{modified_at, sensed_at}
+use Rattle.pointed.specs.Call.{pointed_fault, modified_at, sensed_at}
 use Rattle.pointed.specs.Inner.{put_at}
-use Rattle.blocks.proofs.Doing.{Did, by_effect}
+use Rattle.blocks.proofs.Doing.{Did, does, by_effect}
+use Rattle.pointed.proofs.Refusing.{run_accepted, register_lies, pointed_accepted}
 use Rattle.blocks.proofs.Places.{modify_worked}
 
 -- what is asked of a pointer is asked of one that is held
@@ -140,3 +147,99 @@ module _ (held : Bool) (at : ℕ) (t : List ℕ) (s p n : ℕ) (on : Power) wher
             (either_way inc (held && on.bottom) (advanced begun).at begun.at
             ∙ ap (λ (a : Bool). increased a left begun) c);
       })
+
+-- ---- the calls
+module _ (node : Node) (p d n : ℕ) (on : Power) (t : List ℕ) (none_refuses : 0 ≡ pointed_fault (length t) node p n d) where
+  abbrev Modifies : Result Outputs Refusal → List ℕ → Type 0
+  Modifies r table =
+      Does (pointed_fault (length t) node p n d) on (modified_at (eqb node.class 4) (pointer_at node p t) t d n on) d n p t (worked r) table
+
+  modified_so : (at : ℕ) → at ≡ pointer_at node p t → (out : Outputs) (table : List ℕ)
+      → Did on (modified_at (eqb node.class 4) at t d n on) d n p t out table → Modifies (Ok out) table
+  modified_so at read out table h =
+      does (pointed_fault (length t) node p n d) on (modified_at (eqb node.class 4) (pointer_at node p t) t d n on) d n p t out table none_refuses
+      (subst (λ (x : ℕ). Did on (modified_at (eqb node.class 4) x t d n on) d n p t out table) read h)
+
+  pub modifies_off : on.top ≡ false → (out : Outputs) → out ≡ shows on.top false false 0 → Modifies (Ok out) t
+  modifies_off off out shown =
+      rw shown
+      (modified_so (pointer_at node p t) refl (shows on.top false false 0) t
+      (modify_off (eqb node.class 4) (pointer_at node p t) t d p n on (ap (λ (a : Bool). a && on.middle) (sym off)) off))
+
+  module _ (at : ℕ) (read : at ≡ pointer_at node p t) (top : on.top ≡ true) where
+    lit : on.middle ≡ (on.top && on.middle)
+    lit = ap (λ (a : Bool). a && on.middle) (sym top)
+
+    pub modifies_over : 16 * n < at → (out : Outputs) → out ≡ shows on.top on.middle true 0 → Modifies (Ok out) t
+    modifies_over l out shown =
+        rw shown
+        (modified_so at read (shows on.top on.middle true 0) t (modify_over (eqb node.class 4) at t d p n on lit top l))
+
+    pub modifies_on : at ≤ 16 * n → (asked : Bool) → asked ≡ (eqb node.class 4 && on.bottom) → (w : ℕ) → w ≡ next_of asked (into n at)
+        → (there table : List ℕ) → there ≡ put_at t d n at on.middle → table ≡ matrix_put p (one_word (cond asked (some w) none)) there
+        → (out : Outputs) → out ≡ shows on.top on.middle false 0 → Modifies (Ok out) table
+    modifies_on l asked a w e there table put moved out shown =
+        rw shown
+        (modified_so at read (shows on.top on.middle false 0) table
+        (modify_on (eqb node.class 4) at t d p n on lit top l a e put moved))
+
+  abbrev Senses : Result Outputs Refusal → List ℕ → Type 0
+  Senses r table =
+      Does (pointed_fault (length t) node p n d) on (sensed_at (eqb node.class 4) (pointer_at node p t) t d n on) d n p t (worked r) table
+
+  module _ (at : ℕ) (read : at ≡ pointer_at node p t) (reset_asked : Bool) (asks : reset_asked ≡ (eqb node.class 4 && on.bottom)) (pointer : Pointer)
+      (reset_to : pointer ≡ set_to 1 reset_asked (into n at)) where
+    sensed_so : (out : Outputs) (table : List ℕ) → Did on (sensed_at (eqb node.class 4) at t d n on) d n p t out table → Senses (Ok out) table
+    sensed_so out table h =
+        does (pointed_fault (length t) node p n d) on (sensed_at (eqb node.class 4) (pointer_at node p t) t d n on) d n p t out table none_refuses
+        (subst (λ (x : ℕ). Did on (sensed_at (eqb node.class 4) x t d n on) d n p t out table) read h)
+
+    begins_so : pointer ≡ begun (eqb node.class 4) at t d p n on
+    begins_so = reset_to ∙ ap (λ (a : Bool). set_to 1 a (into n at)) asks
+
+    pub senses_off : on.top ≡ false → (table : List ℕ) → table ≡ matrix_put p (one_word (cond reset_asked (some pointer.at) none)) t
+        → (out : Outputs) → out ≡ shows on.top false false 0 → Senses (Ok out) table
+    senses_off off table put out shown =
+        rw shown
+        (sensed_so (shows on.top false false 0) table
+        (sense_off (eqb node.class 4) at t d p n on off (ap (λ (q : Pointer). q.at) begins_so) asks put))
+
+    pub senses_over : on.top ≡ true → 16 * n < pointer.at → (out : Outputs) → out ≡ shows on.top false true 0 → Senses (Ok out) t
+    senses_over top l out shown =
+        let h = run_accepted (length t) node p n d (sym none_refuses) in
+        rw shown
+        (sensed_so (shows on.top false true 0) t
+        (sense_over (eqb node.class 4) at t d p n on h.some_words h.few top (subst (λ (q : Pointer). 16 * n < q.at) begins_so l)))
+
+    pub senses_on : on.top ≡ true → pointer.at ≤ 16 * n → (increase : Bool) → increase ≡ (eqb node.class 4 && on.middle)
+        → (asked : Bool) → asked ≡ (increase || reset_asked) → (w : ℕ) → w ≡ next_of increase pointer
+        → (table : List ℕ) → table ≡ matrix_put p (one_word (cond asked (some w) none)) t
+        → (middle : Bool) → middle ≡ bit (run t d n) pointer.at
+        → (out : Outputs) → out ≡ shows on.top middle false 0 → Senses (Ok out) table
+    senses_on top l increase c asked a w e table put middle sees out shown =
+        rw shown
+        (sensed_so (shows on.top middle false 0) table
+        (sense_on (eqb node.class 4) at t d p n on top (subst (λ (q : Pointer). q.at ≤ 16 * n) begins_so l) c
+        (a ∙ ap (λ (b : Bool). increase || b) asks)
+        (e ∙ ap (next_of increase) begins_so)
+        put
+        (sees ∙ ap (λ (q : Pointer). bit (run t d n) q.at) begins_so)))
+
+  -- a pointer whose step is taken is held, and its register lies in the table
+  pub asked_held : (a asked : Bool) → asked ≡ (eqb node.class 4 && a) → asked ≡ true → eqb node.class 4 ≡ true
+  asked_held a asked e h = and_held (eqb node.class 4) a e h
+
+  pub either_held : (a b one other asked : Bool) → one ≡ (eqb node.class 4 && a) → other ≡ (eqb node.class 4 && b) → asked ≡ (one || other)
+      → asked ≡ true → eqb node.class 4 ≡ true
+  either_held a b one other asked e f g h = or_held (eqb node.class 4) a b e f g h
+
+  pub asked_lies : (a asked : Bool) → asked ≡ (eqb node.class 4 && a) → asked ≡ true → p < length t
+  asked_lies a asked e h = register_lies (length t) node p n d (sym none_refuses) (and_held (eqb node.class 4) a e h)
+
+  pub either_lies : (a b one other asked : Bool) → one ≡ (eqb node.class 4 && a) → other ≡ (eqb node.class 4 && b) → asked ≡ (one || other)
+      → asked ≡ true → p < length t
+  either_lies a b one other asked e f g h = register_lies (length t) node p n d (sym none_refuses) (or_held (eqb node.class 4) a b e f g h)
+
+pub ruleset modifying = (pointed_accepted, asked_held, asked_lies)
+
+pub ruleset sensing = (pointed_accepted, asked_held, asked_lies, either_held, either_lies)

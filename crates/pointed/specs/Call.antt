@@ -1,6 +1,6 @@
--- CMPR, MBIT and SENS on the words of a table, by their indexes: what each earns (document 01, "Numbers returned"), the number of the
+-- CMPR, MBIT and SENS on the words of a table, by their indexes: what each earns, the number of the
 -- refusal or 0, and what it is to do. Assumes nothing.
-use Rattle.std.specs.Prelude.{ℕ, ◌+◌, Bool, cond, ◌||◌, [], eqb, ltb}
+use Rattle.std.specs.Prelude.{ℕ, ◌+◌, Bool, cond, ◌||◌, [], eqb, ltb, get_or, Option, Some, None}
 use Rattle.verdict.specs.Lists.{Table}
 use Rattle.runs.specs.Run.{run, fault, unless}
 use Rattle.bits.specs.Bit.{longest_whole, longest}
@@ -17,6 +17,11 @@ compare_fault words n s p = cond (ltb p words) (fault longest_whole words n s (p
 abbrev pub pointed_fault : ℕ → Node → ℕ → ℕ → ℕ → ℕ
 pointed_fault words node register n d =
     unless (fault longest words n d d) (cond (eqb node.class 9 || ltb register words) 0 8) (fault longest words n d d)
+
+-- CMPR's pointer: the constant that is given, or else the content of the register at p, 0 where that is outside the table
+abbrev pub pointer_from : Option ℕ → ℕ → Table → ℕ
+pointer_from (Some value) p t = value
+pointer_from None p t = get_or t p 0
 
 -- CMPR: the n words from s on against the n words after the pointer's register at p; MBIT: the n words from d on; SENS: from s on. The pointer
 -- is `at`

@@ -1,55 +1,80 @@
 // CMPR.
-ghost use Rattle.std.specs.Prelude.{◌≡◌, ◌-◌, length};
-ghost use Rattle.blocks.specs.View.{pointer_at};
-ghost use Rattle.blocks.specs.Answer.{Does};
-ghost use Rattle.pointed.specs.Call.{compare_fault, compared_at};
+ghost use Rattle.std.specs.Prelude.{◌≡◌, length};
+ghost use Rattle.verdict.specs.Verdict.{fault_number};
+ghost use Rattle.blocks.specs.Answer.{worked, Does};
+ghost use Rattle.pointed.specs.Call.{compare_fault, compared_at, pointer_from};
 
-use crate::register::{pointer_in, put_pointer};
+use crate::register::put_pointer;
 use crate::single::bit;
 use bits::LONGEST_WHOLE;
-use blocks::{Power, Worked, finished, refused};
+use blocks::{Outputs, Power};
 use pointer::{Pointer, set_to};
-use record::Node;
-use search::Difference;
+use verdict::{Fault, Refusal};
 
-// How many bit pairs lie after one position, up to another.
-fn pairs(from: u16, to: u16) -> u16
-    ensures { result ≡ to - from }
+// Whether the register of a pointer at p and the n words from s on and after the register lie in a table of so many
+// words.
+fn compare_fault(words: usize, n: usize, s: usize, p: usize) -> Result<(), Fault>
+    ensures { fault_number result ≡ compare_fault words n s p }
 {
-    if to < from {
-        return 0;
+    if words <= p {
+        return Err(Fault::Operand);
     }
-    to - from
+    runs::fault(LONGEST_WHOLE, words, n, s, p + 1)
 }
 
-// The n words from s on against the n words after the pointer, which a node gives and whose register stands at p.
-pub fn compare(table: &mut [u16], node: Node, s: usize, p: usize, n: usize, on: Power) -> Worked
-    ensures { Does (compare_fault (length table.old) n s p) on
-        (compared_at (pointer_at node p table.old) table.old s p n on) p n p
-        table.old result table.new }
+// The constant that is given, or else the content of the register at p, 0 where that is outside the table.
+fn pointer_from(table: &[u16], fixed: Option<u16>, p: usize) -> u16
+    ensures { result ≡ pointer_from fixed p table.now }
 {
-    let words = table.len();
-    if words <= p {
-        return refused(8);
+    match fixed {
+        Some(value) => value,
+        None => section::word(table, p),
     }
+}
+
+/// The n words from s on against the n words after the register at p. The pointer is the constant that is given, or else
+/// that register's content.
+//
+// For speed it is inlined into a run's visit of a block, where no constant is ever given.
+#[inline(always)]
+#[tactic(auto, using(crate::proofs::Refusing::compared_accepted))]
+pub fn compare(
+    table: &mut [u16],
+    fixed: Option<u16>,
+    s: usize,
+    p: usize,
+    n: usize,
+    on: Power,
+) -> Result<Outputs, Refusal>
+    ensures { Does (compare_fault (length table.old) n s p) on
+        (compared_at (pointer_from fixed p table.old) table.old s p n on) p n p
+        table.old (worked result) table.new }
+{
+    compare_fault(table.len(), n, s, p)?;
     let matrix = p + 1;
-    let number = runs::fault(LONGEST_WHOLE, words, n, s, matrix);
-    if number != 0 {
-        return refused(number);
-    }
     let size = (16 * n) as u16;
-    let at = pointer_in(table, node, p);
+    let at = pointer_from(table, fixed, p);
     let pointer = set_to(0, on.middle, Pointer { at, size });
     if !on.top {
         put_pointer(table, p, on.middle, pointer.at);
-        return finished(on.top, false, false, 0);
+        return Ok(Outputs::plain(on.top, false, false));
     }
-    let from = pointer.in_range();
-    let Difference::At(found) = search::first_difference(table, s, matrix, n, from.at) else {
+    let from = pointer.in_range().at;
+    let Some(found) = search::first_difference(table, s, matrix, n, from)? else {
         table[p] = size;
-        return finished(on.top, false, false, pairs(from.at, size));
+        return Ok(Outputs {
+            top: on.top,
+            middle: false,
+            bottom: false,
+            count: size.saturating_sub(from),
+        });
     };
     let shown = bit(table, s, n, found);
     table[p] = found;
-    finished(on.top, true, shown, pairs(from.at, found))
+    Ok(Outputs {
+        top: on.top,
+        middle: true,
+        bottom: shown,
+        count: found.saturating_sub(from),
+    })
 }

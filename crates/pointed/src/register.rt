@@ -1,41 +1,50 @@
-// A block's pointer: what its node gives, its steps where they are asked for, and its register.
-ghost use Rattle.std.specs.Prelude.{◌≡◌, true, cond, ◌<◌, length};
+// A block's pointer: what it earns, and its register.
+ghost use Rattle.std.specs.Prelude.{◌≡◌, true, cond, ◌&&◌, ◌<◌, length};
 ghost use Rattle.std.proofs.Math.Option.{none, some};
+ghost use Rattle.verdict.specs.Verdict.{fault_number};
 ghost use Rattle.blocks.specs.Work.{matrix_put, one_word};
-ghost use Rattle.blocks.specs.View.{pointer_at};
-ghost use Rattle.pointed.specs.Call.{pointed_fault};
+ghost use Rattle.pointed.specs.Places.{held, place_fault, place_word};
 
+use crate::place::Place;
 use bits::LONGEST;
-use record::Node;
+use verdict::Fault;
 
-// The pointer that a node gives: a constant's value, or the content of its register, 0 where that is outside the table.
-pub(crate) fn pointer_in(table: &[u16], node: Node, register: usize) -> u16
-    ensures { result ≡ pointer_at node register table.now }
+// Whether a step of a pointer that is asked for is taken: only a held pointer is ever reset or increased.
+pub(crate) fn is_taken(place: &Place, asked: bool) -> bool
+    ensures { result ≡ held place.now && asked }
 {
-    if node.class == 9 {
-        return node.number;
+    match place {
+        Place::Holding(_) => asked,
+        _ => false,
     }
-    section::word(table, register)
 }
 
-// The refusal that the n words from d on and the register of a node's pointer earn in a table of so many words, or 0.
-pub(crate) fn pointed_fault(words: usize, node: Node, register: usize, n: usize, d: usize) -> u16
-    ensures { result ≡ pointed_fault words node register n d }
+// Whether the n words from d on and a pointer's register lie in a table of so many words.
+pub(crate) fn pointed_fault(words: usize, place: &Place, n: usize, d: usize) -> Result<(), Fault>
+    ensures { fault_number result ≡ place_fault words place.now n d }
 {
-    let number = runs::fault(LONGEST, words, n, d, d);
-    if number != 0 {
-        return number;
+    runs::fault(LONGEST, words, n, d, d)?;
+    match place {
+        Place::Input(at) | Place::Holding(at) if words <= *at => Err(Fault::Operand),
+        _ => Ok(()),
     }
-    if node.class == 9 {
-        return 0;
+}
+
+// A held pointer's register becomes the new pointer, where there is one.
+#[tactic(auto, using(crate::proofs::Stored::word_put), unfolding(blocks::specs::Work::matrix_put))]
+pub(crate) fn put_held(table: &mut [u16], place: &Place, new: bool, at: u16)
+    requires held { new ≡ true → held place.now ≡ true }
+    requires lies { new ≡ true → place_word place.now < length table.old }
+    ensures { table.new ≡ matrix_put (place_word place.now) (one_word (cond new (some at) none)) table.old }
+{
+    match place {
+        Place::Holding(p) if new => table[*p] = at,
+        _ => (),
     }
-    if register < words {
-        return 0;
-    }
-    8
 }
 
 // The word at an index becomes the new pointer, where there is one.
+#[tactic(auto, using(crate::proofs::Stored::word_put), unfolding(blocks::specs::Work::matrix_put))]
 pub(crate) fn put_pointer(table: &mut [u16], p: usize, new: bool, at: u16)
     requires { new ≡ true → p < length table.old }
     ensures { table.new ≡ matrix_put p (one_word (cond new (some at) none)) table.old }

@@ -1,4 +1,4 @@
--- Pointer steps (document 01, "One scan"): each hands back a new pointer and its size, the number of bits it points into. A
+-- Pointer steps: each hands back a new pointer and its size, the number of bits it points into. A
 -- size that isn't 16n for n from 1 to the longest comes back unchanged with its pointer. Assumes nothing.
 use Rattle.std.specs.Prelude.{ℕ, ◌+◌, ◌*◌, ◌%◌, Bool, cond, ◌&&◌, leb, ltb, eqb}
 use Rattle.bits.specs.Bit.{longest}

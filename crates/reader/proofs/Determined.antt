@@ -12,14 +12,14 @@ use denote.Triple.Entry.{Args, Res}
 use denote.Triple.Clauses.{Ended, Clauses, AtExit}
 use denote.Triple.Walked.{needs}
 use Rattle.verdict.specs.Promise.{Decides}
-use Rattle.network.proofs.ReadAt.{said_once}
+use Rattle.verdict.proofs.Said.{numbered_once}
 use Rattle.reader.proofs.record_of.Reads as record_of_reads
 use Rattle.reader.specs.contracts.Reader.open as opener
 use Rattle.reader.specs.contracts.Reader.opened as opened
 use Rattle.reader.specs.contracts.Reader.record as block
 
 pub record_of : Decides record_of_reads.Post
-record_of κs a x y s t p q = said_once x y (p ∙ sym q)
+record_of κs a x y s t p q = numbered_once x y (p ∙ sym q)
 
 -- ---- a reader holds a reference, and of a contract over one the check reads no such `Post` off: what the contract says of two
 -- results, as it stands, gives that they are equal, the words that a reader holds included
@@ -33,10 +33,10 @@ module _ {M : Type 1} {𝓤 : Ura M} (𝓛 : Logic 𝓤) (mem : Memory → SProp
   given {φ} {ψ} {χ} f = needs 𝓤 ψ (fact 𝓤 φ) (λ q. fact_mono 𝓤 φ χ (λ p. f p q))
 
   pub reader_open : Equates opener.ended (opener.clauses 𝓛 mem run)
-  reader_open κs a g x y s t = given (λ p q. λ i. record { words = (p.holds ∙ sym q.holds) i; found = (p.knows ∙ sym q.knows) i })
+  reader_open κs a g x y s t = given (λ p q. λ i. record { words = (p.holds ∙ sym q.holds) i; found = numbered_once x.found y.found (p.knows ∙ sym q.knows) i })
 
   pub reader_opened : Equates opened.ended (opened.clauses 𝓛 mem run)
   reader_opened κs a g x y s t = given (λ p q. p ∙ sym q)
 
   pub reader_record : Equates block.ended (block.clauses 𝓛 mem run)
-  reader_record κs a g x y s t = given (λ p q. said_once x y (p ∙ sym q))
+  reader_record κs a g x y s t = given (λ p q. numbered_once x y (p ∙ sym q))

@@ -1,23 +1,26 @@
 // The reader: opened on lent words, it gives the record of block k.
 //
-// It takes any words. It gives the record, or the checker's refusal, or 12 for a block that is not there.
+// It takes any words. It gives the record, or the checker's refusal, or `Fault::Call` for a block that is not there.
 #![tactic(auto)]
 
 ghost use Rattle.std.specs.Prelude.{◌≡◌};
-ghost use Rattle.network.specs.Check.{record_said, read_at, read};
-ghost use Rattle.reader.specs.Reader.{OpenedOn};
+ghost use Rattle.verdict.specs.Verdict.{numbered};
+ghost use Rattle.network.specs.Check.{read};
+ghost use Rattle.reader.specs.Reader.{OpenedOn, read_by};
 
-use network::{Opened, Read, opening, record_at};
+use network::{Opened, opening, record_at};
+use record::Block;
+use verdict::Refusal;
 
-// A reader over the lent words, with what opening them found.
-#[derive(Clone, Copy)]
+/// A reader over the lent words, with what opening them found.
+#[derive(Clone, Copy, Debug, PartialEq, Eq)]
 pub struct Reader<'a> {
     words: &'a [u16],
-    found: Opened,
+    found: Result<Opened, Refusal>,
 }
 
 impl<'a> Reader<'a> {
-    // Checks all the words.
+    /// Checks all the words.
     pub fn open(words: &'a [u16]) -> Reader<'a>
         ensures { OpenedOn words.entry result }
     {
@@ -27,24 +30,25 @@ impl<'a> Reader<'a> {
         }
     }
 
-    // What the opening found: the checker's verdict, with the sizes and the count.
-    pub fn opened(self) -> Opened
+    /// What the opening found: the sizes and the count, or the checker's refusal.
+    pub fn opened(self) -> Result<Opened, Refusal>
         ensures { result ≡ self.entry.found }
     {
         self.found
     }
 
-    // The record of block k: the checker's refusal, 12, or what the words spell.
-    pub fn record(self, k: usize) -> Read
-        ensures { record_said result ≡ read_at self.entry.words.now self.entry.found k }
+    /// The record of block k: the checker's refusal, `Fault::Call`, or what the words spell.
+    pub fn record(self, k: usize) -> Result<Block, Refusal>
+        ensures { numbered result ≡ read_by self.entry.words.now self.entry.found k }
     {
-        record_at(self.words, self.found, k)
+        record_at(self.words, self.found?, k)
     }
 }
 
-// The record of block k of these words, which are checked first.
-pub fn record_of(words: &[u16], k: usize) -> Read
-    ensures { record_said result ≡ read words.now k }
+/// The record of block k of these words, which are checked first.
+#[tactic(auto, using(crate::proofs::Reading::gives_record))]
+pub fn record_of(words: &[u16], k: usize) -> Result<Block, Refusal>
+    ensures { numbered result ≡ read words.now k }
 {
     Reader::open(words).record(k)
 }

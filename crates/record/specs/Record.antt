@@ -1,4 +1,4 @@
--- A block's record and its 15 words (document 01, "A network in words"): kind; length n; top node (class, number); middle
+-- A block's record and its 15 words: kind; length n; top node (class, number); middle
 -- node (class, number); top, middle and bottom input (code, number each); three coil numbers. Assumes nothing.
 use Rattle.std.specs.Prelude.{ℕ, ◌+◌, [], ◌∷◌, drop}
 use Rattle.verdict.specs.Lists.{Words}

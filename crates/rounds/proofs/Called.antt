@@ -7,7 +7,7 @@ use mathlib.Core.Option.{Option, none, some}
 use Prim.Native.Nat.{ℕ, zero, suc, ◌+◌, ◌≤◌, ◌<◌}
 use native.Mathlib.Omega.{arith}
 use lib.ListN.{length, get_or, drop, length-map, get_or-append}
-use Rattle.verdict.specs.declared.Verdict.{Verdict}
+use Rattle.verdict.specs.Verdict.{Verdict, Said, numbered}
 use Rattle.verdict.specs.Promise.{LeavesTwo}
 use Rattle.network.specs.Network.{Network, block_of, block_count}
 use Rattle.network.specs.Check.{network_in}
@@ -91,7 +91,7 @@ demand_3_packed ws i m lent left lists numbers answers K S kept j l =
     (λ s. reading (network_in ws) i (left s) (map unpacked (numbers s))) (reads_numbers ws i m lent left lists numbers answers K S.there kept) j l
 
 -- the contract that `PackedCalls` speaks of is the one that the check reads off the source
-pub as_the_source_has_it : (κs : _) (a : _) (r : Verdict) (s : _) → packed_reads.Post κs a r s
+pub as_the_source_has_it : (κs : _) (a : _) (r : _) (s : _) → packed_reads.Post κs a r s
     → LeavesTwo (scan_verdict a.0.now (length a.1.0.now) (length a.1.1.0.now)) (scan_table a.0.now a.1.0.now (length a.1.1.0.now)) (scan_packed a.0.now a.1.0.now a.1.1.0.now)
-    r s.1.0.now s.1.1.0.now
-as_the_source_has_it κs a r s p = p
+    (numbered r).verdict s.1.0.now s.1.1.0.now
+as_the_source_has_it κs a r s p = record { answers = ap (λ (v : Said Unit). v.verdict) p.0; leaves_one = p.1.0; leaves_other = p.1.1 }

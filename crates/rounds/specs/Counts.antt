@@ -2,7 +2,7 @@
 -- from pointer 0 or a pointer of 16n or more, the c counts of a round add to exactly 16n. Assumes nothing.
 use Rattle.std.specs.Prelude.{ℕ, ◌+◌, ◌-◌, ◌*◌, ◌≤◌, ◌<◌, ◌≡◌, cond, List, [], ◌∷◌, map, ◌⊎◌, length, get_or, take, drop}
 use Rattle.verdict.specs.Lists.{Words, Table, Bytes}
-use Rattle.verdict.specs.declared.Verdict.{Verdict}
+use Rattle.verdict.specs.Verdict.{Verdict}
 use Rattle.table.specs.Table.{total}
 use Rattle.network.specs.Network.{Network, block_of, block_count}
 use Rattle.network.specs.Sound.{GoodNetwork}

@@ -3,7 +3,7 @@
 use Rattle.std.specs.Prelude.{ℕ, ◌+◌, ◌<◌, ◌≡◌, Bool, true, false, ◌&&◌, List, map, length, get_or}
 use Rattle.std.proofs.Math.Option.{Option, none, some}
 use Rattle.verdict.specs.Lists.{Words, Table, Bytes}
-use Rattle.verdict.specs.declared.Verdict.{Verdict}
+use Rattle.verdict.specs.Verdict.{Verdict}
 use Rattle.network.specs.Network.{Network, block_of, block_count}
 use Rattle.network.specs.Check.{network_in}
 use Rattle.blocks.specs.declared.Outputs.{Outputs}

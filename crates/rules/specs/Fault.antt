@@ -1,7 +1,7 @@
--- The refusal that each word of a record earns when it is reached (document 01, "Numbers returned"), 0 for none. Every test
+-- The refusal that each word of a record earns when it is reached, 0 for none. Every test
 -- of a record, by whichever tool, goes by these. Assumes nothing.
 use Rattle.std.specs.Prelude.{ℕ, ◌+◌, ◌*◌, Bool, cond, List, [], ◌∷◌, leb, eqb}
-use Rattle.verdict.specs.declared.Verdict.{Verdict}
+use Rattle.verdict.specs.Verdict.{Verdict}
 use Rattle.section.specs.Limit.{counted, up_to}
 use Rattle.section.specs.Walk.{seek}
 use Rattle.level.specs.Level.{at_level, most_constant}

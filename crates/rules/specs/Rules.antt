@@ -1,4 +1,4 @@
--- The rules for the eight kinds (document 01, "A network in words"), a row for each. Assumes nothing.
+-- The rules for the eight kinds, a row for each. Assumes nothing.
 use Rattle.std.specs.Prelude.{ℕ, ◌-◌, Bool, true, false, cond, ◌&&◌, List, [], ◌∷◌, leb, eqb, get_or}
 use Rattle.level.specs.declared.ByLevel.{ByLevel}
 use Rattle.level.specs.Level.{at_both, whole_length, single_length}

@@ -1,11 +1,14 @@
 // The rules for the eight kinds, in one constant table.
 ghost use Rattle.std.specs.Prelude.{◌≡◌};
+ghost use Rattle.rules.specs.Codes.{kind_number, class_number};
 ghost use Rattle.rules.specs.Rules.{rule, allows};
 
+use crate::codes::{Class, Kind};
 use level::{ByLevel, SINGLE_LENGTH, WHOLE_LENGTH};
+use table::Area;
 
-// The classes that a node may have.
-#[derive(Clone, Copy)]
+/// The classes that a node may have.
+#[derive(Clone, Copy, Debug, PartialEq, Eq)]
 pub struct Classes {
     pub coils: bool,
     pub discretes: bool,
@@ -14,9 +17,9 @@ pub struct Classes {
     pub constants: bool,
 }
 
-// The classes of both nodes, the greatest length by level, the middle node's registers beside its matrix, and whether the top node is
-// a pointer.
-#[derive(Clone, Copy)]
+/// The classes of both nodes, the greatest length by level, the middle node's registers beside its matrix, and whether
+/// the top node is a pointer.
+#[derive(Clone, Copy, Debug, PartialEq, Eq)]
 pub struct Rule {
     pub top: Classes,
     pub middle: Classes,
@@ -57,14 +60,6 @@ const POINTERS: Classes = Classes {
     constants: true,
 };
 
-const NO_CLASS: Classes = Classes {
-    coils: false,
-    discretes: false,
-    inputs: false,
-    holding: false,
-    constants: false,
-};
-
 const LOGIC: Rule = Rule {
     top: ANY_MATRIX,
     middle: WRITABLE,
@@ -97,55 +92,30 @@ const SENSE: Rule = Rule {
     pointer: true,
 };
 
-const NO_LENGTH: ByLevel = ByLevel { one: 0, two: 0 };
+// AND, OR, XOR, COMP, CMPR, MBIT, SENS, BROT: one constant table of rows, in the order of the kinds' numbers from 1 on,
+// is the one place of the rules.
+static RULES: [Rule; 8] = [LOGIC, LOGIC, LOGIC, LOGIC, COMPARE, MODIFY, SENSE, LOGIC];
 
-const NO_KIND: Rule = Rule {
-    top: NO_CLASS,
-    middle: NO_CLASS,
-    most: NO_LENGTH,
-    extra: 0,
-    pointer: false,
-};
-
-// AND, OR, XOR, COMP, CMPR, MBIT, SENS, BROT.
-const RULES: [Rule; 8] = [LOGIC, LOGIC, LOGIC, LOGIC, COMPARE, MODIFY, SENSE, LOGIC];
-
-// The row of a kind. (The table at a variable index would be laid on the stack anew at every look.)
-pub(crate) fn rule_of(kind: u16) -> Rule
-    ensures { result ≡ rule kind }
+/// The row of a kind.
+#[tactic(auto, unfolding(crate::specs::Rules::rule))]
+pub fn rule_of(kind: Kind) -> &'static Rule
+    ensures { result.now ≡ rule (kind_number kind) }
 {
-    let rows = RULES;
-    match kind {
-        1 => rows[0],
-        2 => rows[1],
-        3 => rows[2],
-        4 => rows[3],
-        5 => rows[4],
-        6 => rows[5],
-        7 => rows[6],
-        8 => rows[7],
-        _ => NO_KIND,
-    }
+    &RULES[kind as usize - 1]
 }
 
-// Whether a node may have a class.
-pub(crate) fn allows(classes: Classes, class: u16) -> bool
-    ensures { result ≡ allows classes class }
-{
-    if class == 0 {
-        return classes.coils;
+impl Classes {
+    /// Whether a node may have a class.
+    #[tactic(auto, unfolding(crate::specs::Rules::allows))]
+    pub fn allows(self, class: Class) -> bool
+        ensures { result ≡ allows self (class_number class) }
+    {
+        match class {
+            Class::Area(Area::Coils) => self.coils,
+            Class::Area(Area::Discretes) => self.discretes,
+            Class::Area(Area::Inputs) => self.inputs,
+            Class::Area(Area::Holding) => self.holding,
+            Class::Constant => self.constants,
+        }
     }
-    if class == 1 {
-        return classes.discretes;
-    }
-    if class == 3 {
-        return classes.inputs;
-    }
-    if class == 4 {
-        return classes.holding;
-    }
-    if class == 9 {
-        return classes.constants;
-    }
-    false
 }

@@ -1,6 +1,6 @@
 -- The laws of how many visits fit: no more than are left, at least one where there is room, and as many visits at once as have room for
 -- whatever lines. Assumes nothing.
-use mathlib.Core.Path.{◌≡◌, refl, sym, ap, ◌∙◌, subst}
+use mathlib.Core.Path.{◌≡◌, refl, ap, ◌∙◌}
 use mathlib.Core.Bool.{Bool, cond}
 use mathlib.Core.List.{List, ◌++◌}
 use Prim.Native.Nat.{ℕ, zero, suc, ◌+◌, ◌-◌, ◌*◌, ◌/◌, ◌%◌, ◌≤◌, ◌<◌}
@@ -14,30 +14,7 @@ use Rattle.network.specs.Network.{Network, block_count}
 use Rattle.network.specs.Sound.{GoodNetwork}
 use Rattle.run.specs.Visits.{visited, visit_line, visits_state, visits_lines}
 use Rattle.run.specs.Page.{visit_room, fitting}
-use Rattle.run.specs.Inner.{at_once}
 use Rattle.run.proofs.Visiting.{visit_short}
-
--- ---- how many at once
-module _ (room left : ℕ) where
-  pub at_once_fit : room / visit_room < left → at_once room left ≡ room / visit_room
-  unfolding at_once
-  at_once_fit l = simp (lt-ltb (room / visit_room) left l)
-
-  pub at_once_left : left ≤ room / visit_room → at_once room left ≡ left
-  unfolding at_once
-  at_once_left l = simp (le-ltb (room / visit_room) left l)
-
-  -- no more than are left, room for their lines, and none only where there is no room or none is left
-  pub record AtOnce (m : ℕ) : Type 0 where
-    pub few : m ≤ left
-    pub bytes : visit_room * m ≤ room
-    pub none : m ≤ 0 → visit_room ≤ room → left ≤ 0
-
-  pub at_once_so : AtOnce (at_once room left)
-  at_once_so = elim (dec_lt (room / visit_room) left) [
-    | yes l ↦ subst AtOnce (sym (at_once_fit l)) (record { few = omega arith; bytes = omega arith; none = λ u v. omega arith })
-    | no l ↦ subst AtOnce (sym (at_once_left (le_of_not_lt l))) (record { few = omega arith; bytes = omega (arith, le_of_not_lt l); none = λ u v. u })
-  ]
 
 -- ---- one after the other
 module _ (net : Network) where

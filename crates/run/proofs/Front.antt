@@ -5,11 +5,11 @@ use mathlib.Core.List.{List, ◌∷◌}
 use Prim.Native.Nat.{ℕ, zero, suc, ◌+◌, ◌*◌, ◌%◌, ◌≤◌, ◌<◌}
 use native.Mathlib.Decide.{dec_lt}
 use native.Mathlib.Omega.{arith}
-use borrow.Author.Tests.{ne_eqb}
+use borrow.Author.Tests.{eq-eqb, ne_eqb}
 use lib.Dec.{eqb}
 use lib.ListN.{length, take}
 use lib.Seq.{take_all, take-take, get_or-take, length-take-le}
-use Rattle.verdict.specs.declared.Verdict.{Verdict}
+use Rattle.verdict.specs.Verdict.{Verdict}
 use Rattle.section.proofs.Walk.{le_of_not_lt}
 use Rattle.words.specs.Words.{word_in, words_from, words_count, words_in, odd_byte}
 use Rattle.words.proofs.Filling.{words_length}
@@ -37,9 +37,14 @@ words_taken bs m (suc n) k l =
     (words_taken bs m n (suc k) (omega arith))
 
 -- refused words print their verdict's line
-refused_text : (ws : List ℕ) (odd : Bool) → ((file_checked ws odd).number ≡ 0 → ⊥) → words_text ws odd ≡ refusal_line (file_checked ws odd)
+pub refused_text : (ws : List ℕ) (odd : Bool) → ((file_checked ws odd).number ≡ 0 → ⊥) → words_text ws odd ≡ refusal_line (file_checked ws odd)
 unfolding words_text
 refused_text ws odd h = ap (λ (a : Bool). cond a (file_text (file_in ws)) (refusal_line (file_checked ws odd))) (ne_eqb (file_checked ws odd).number 0 h)
+
+-- accepted ones their file's
+pub accepted_text : (ws : List ℕ) (odd : Bool) → (file_checked ws odd).number ≡ 0 → words_text ws odd ≡ file_text (file_in ws)
+unfolding words_text
+accepted_text ws odd h = ap (λ (a : Bool). cond a (file_text (file_in ws)) (refusal_line (file_checked ws odd))) (eq-eqb (file_checked ws odd).number 0 h)
 
 module _ (bytes : List ℕ) (long : most_bytes < length bytes) where
   front : List ℕ
@@ -83,6 +88,20 @@ exactly_enough bytes = elim (dec_lt most_bytes (length bytes)) [
   | yes l ↦ same_text bytes l
   | no l ↦ ap (λ (bs : List ℕ). words_text (words_in bs) (odd_byte bs)) (take_all most_bytes bytes (le_of_not_lt l))
 ]
+
+abbrev check_of : List ℕ → Verdict
+check_of bytes = file_checked (words_in bytes) (odd_byte bytes)
+
+exactly_checked : (bytes : List ℕ) → check_of (take most_bytes bytes) ≡ check_of bytes
+unfolding front
+exactly_checked bytes = elim (dec_lt most_bytes (length bytes)) [
+  | yes l ↦ sym (same_verdict bytes l)
+  | no l ↦ ap check_of (take_all most_bytes bytes (le_of_not_lt l))
+]
+
+-- nor do they change what the check says
+pub front_is_checked : (bytes : List ℕ) (n : ℕ) → most_bytes ≤ n → file_checked (words_in (take n bytes)) (odd_byte (take n bytes)) ≡ file_checked (words_in bytes) (odd_byte bytes)
+front_is_checked bytes n l = sym (exactly_checked (take n bytes)) ∙ ap check_of (take-take most_bytes n bytes l) ∙ exactly_checked bytes
 
 pub front_is_enough : FrontIsEnough
 front_is_enough bytes n l = sym (exactly_enough (take n bytes)) ∙ ap bench_text (take-take most_bytes n bytes l) ∙ exactly_enough bytes

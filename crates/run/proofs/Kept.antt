@@ -1,16 +1,19 @@
 -- A refusal changes nothing: with a refusal for its answer, `run` leaves the state and the buffer as they were. Assumes nothing.
-use mathlib.Core.Path.{◌≡◌, ap, ◌∙◌}
+use mathlib.Core.Path.{◌≡◌, refl, ap, ◌∙◌}
 use mathlib.Core.Bool.{Bool, cond}
 use mathlib.Core.List.{List, ◌++◌}
 use Prim.Native.Nat.{ℕ, ◌+◌}
 use borrow.Author.Tests.{eq-eqb, ne_eqb}
 use lib.ListN.{length, drop}
 use Rattle.verdict.specs.Promise.{Keeps}
-use Rattle.verdict.specs.Verdict.{done}
+use Rattle.std.specs.Prelude.{Result, Ok, Err}
+use Rattle.verdict.specs.declared.Refusal.{Refusal}
+use Rattle.verdict.specs.Verdict.{done, numbered}
+use Rattle.verdict.proofs.Said.{no_zero}
+use Rattle.run.specs.declared.Page.{Page}
 use Rattle.file.specs.File.{file_in}
-use Rattle.run.specs.declared.Went.{Went}
 use Rattle.run.specs.Visits.{visits_state}
-use Rattle.run.specs.Page.{many, next_visit, page, run_verdict, went, run_went, run_state, run_text}
+use Rattle.run.specs.Page.{Went, many, next_visit, page, run_verdict, went, run_went, went_from, run_state, run_text}
 use Rattle.run.proofs.run.Reads as run_reads
 
 -- a run whose answer refuses is one whose verdict does
@@ -33,8 +36,13 @@ module _ (ws state : List ℕ) (from : ℕ) where
       ap (λ (b : Bool). cond b (page ws state from (length text) ++ drop (length (page ws state from (length text))) text) text)
       (ne_eqb (run_verdict ws (length state) from (length text)).number 0 (bad (length text) h))
 
-pub run_keeps_state : Keeps run_reads.Post (λ κs r. r.verdict.number ≡ 0 → ⊥) (λ κs a. a.1.0.now) (λ κs s. s.1.0.now)
-run_keeps_state κs a x s p h = p.leaves_one ∙ state_kept _ _ _ _ (λ e. h (ap (λ (r : Went). r.verdict.number) p.answers ∙ e))
+-- what a refusal says has a number
+refuses : (from : ℕ) (x : Result Page Refusal) {w : Went} → went_from from x ≡ w → ((numbered x).verdict.number ≡ 0 → ⊥) → w.verdict.number ≡ 0 → ⊥
+refuses from (Ok p) e h q = h refl
+refuses from (Err r) e h q = no_zero r.fault (ap (λ (v : Went). v.verdict.number) e ∙ q)
 
-pub run_keeps_text : Keeps run_reads.Post (λ κs r. r.verdict.number ≡ 0 → ⊥) (λ κs a. a.1.1.1.0.now) (λ κs s. s.1.1.1.0.now)
-run_keeps_text κs a x s p h = p.leaves_other ∙ text_kept _ _ _ _ (λ e. h (ap (λ (r : Went). r.verdict.number) p.answers ∙ e))
+pub run_keeps_state : Keeps run_reads.Post (λ κs r. (numbered r).verdict.number ≡ 0 → ⊥) (λ κs a. a.1.0.now) (λ κs s. s.1.0.now)
+run_keeps_state κs a x s p h = p.1.0 ∙ state_kept _ _ _ _ (refuses _ x p.0 h)
+
+pub run_keeps_text : Keeps run_reads.Post (λ κs r. (numbered r).verdict.number ≡ 0 → ⊥) (λ κs a. a.1.1.1.0.now) (λ κs s. s.1.1.1.0.now)
+run_keeps_text κs a x s p h = p.1.1 ∙ text_kept _ _ _ _ (refuses _ x p.0 h)

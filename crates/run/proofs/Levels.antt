@@ -3,9 +3,8 @@ use mathlib.Core.Path.{◌≡◌, sym, ap, ap₂, ◌∙◌}
 use mathlib.Core.Bool.{cond}
 use mathlib.Core.List.{◌∷◌}
 use lib.Dec.{eqb}
-use Rattle.verdict.specs.declared.Verdict.{Verdict}
 use Rattle.verdict.specs.Lists.{Words}
-use Rattle.verdict.specs.Verdict.{done}
+use Rattle.verdict.specs.Verdict.{Verdict, done}
 use Rattle.file.specs.File.{File, file_checked}
 use Rattle.file.specs.Sound.{one_later}
 use Rattle.file.proofs.Accepted.{accepted_done}

@@ -10,19 +10,17 @@ use borrow.Author.Tests.{le-leb, lt-leb, leb-true, eq-eqb, ne_eqb, eqb-true}
 use lib.Dec.{leb, eqb}
 use lib.ListN.{length, take, drop, length-append, length-drop, replicate, length-replicate}
 use lib.Seq.{take-append_seam}
-use Rattle.verdict.specs.declared.Verdict.{Verdict}
 use Rattle.verdict.specs.Promise.{LeavesTwo}
-use Rattle.verdict.specs.Verdict.{verdict, done}
+use Rattle.verdict.specs.Verdict.{Verdict, verdict, done}
 use Rattle.network.specs.Network.{Network, block_count}
 use Rattle.file.specs.File.{File, table_words, file_in, file_checked}
 use Rattle.file.specs.Sound.{SoundFile}
 use Rattle.file.proofs.Accepted.{accepts_files}
 use Rattle.text.specs.Text.{head_line, end_line, longest_line}
 use Rattle.text.proofs.Laying.{head_few}
-use Rattle.run.specs.declared.Went.{Went}
 use Rattle.run.specs.Visits.{visits_state, visits_lines}
 use Rattle.run.specs.Bench.{visit_count, file_text}
-use Rattle.run.specs.Page.{least_room, many, state_words, first_line, next_visit, page, run_verdict, run_lines, went, run_went, run_state, run_text}
+use Rattle.run.specs.Page.{Went, least_room, many, state_words, first_line, next_visit, page, run_verdict, run_lines, went, run_went, run_state, run_text}
 use Rattle.run.specs.Calls.{Pages, PagesArePrinted, NeverStuck}
 use Rattle.run.specs.Calls.Pages.{no_more, one_more}
 use Rattle.run.proofs.Visiting.{lines_join}
@@ -58,16 +56,22 @@ module _ (f : File) where
   abbrev the_rest : List ℕ → ℕ → List ℕ
   the_rest state from = first_line f from ++ visits_lines net from (visit_count f - from) state ++ end_line f.run
 
-  left_text : List ℕ → ℕ → List ℕ
+  pub left_text : List ℕ → ℕ → List ℕ
   left_text state from = cond (leb from (visit_count f)) (the_rest state from) []
 
   left_some : (state : List ℕ) (from : ℕ) → from ≤ visit_count f → left_text state from ≡ the_rest state from
   unfolding left_text
   left_some state from l = ap (λ (a : Bool). cond a (the_rest state from) []) (le-leb from (visit_count f) l)
 
-  left_none : (state : List ℕ) (from : ℕ) → visit_count f < from → left_text state from ≡ []
+  pub left_none : (state : List ℕ) (from : ℕ) → visit_count f < from → left_text state from ≡ []
   unfolding left_text
   left_none state from l = ap (λ (a : Bool). cond a (the_rest state from) []) (lt-leb from (visit_count f) l)
+
+  -- from visit 0 on
+  pub left_first : (state : List ℕ) → left_text state 0 ≡ head_line (block_count net) (table_words f) ++ visits_lines net 0 (visit_count f) state ++ end_line f.run
+  left_first state =
+      let n : visit_count f - 0 ≡ visit_count f = omega arith in
+      left_some state 0 (omega arith) ∙ ap (λ (k : ℕ). first_line f 0 ++ visits_lines net 0 k state ++ end_line f.run) n
 
   -- after the first visit there is no first line
   no_first : (from : ℕ) → 0 < from → first_line f from ≡ []
@@ -159,8 +163,13 @@ module _ (ws : List ℕ) (fine : (file_checked ws false).number ≡ 0) where
   all_pages {state} {from} (no_more h) = sym (left_none f state from h)
   all_pages {state} {from} (one_more text s more) = one_call state from text s (all_pages more) (eqb (run_verdict ws (length state) from (length text)).number 0) refl
 
+  -- a call puts the first of what is left
+  pub page_first : (state : List ℕ) (from : ℕ) (text : List ℕ) {left after : List ℕ} {r : Went} → LeavesTwo (run_went ws state from (length text)) (run_state ws state from (length text)) (run_text ws state from text) r left after
+      → take r.bytes after ++ left_text f left r.next ≡ left_text f state from
+  page_first state from text s = one_call state from text s refl (eqb (run_verdict ws (length state) from (length text)).number 0) refl
+
   -- from visit 0 on it is all, whatever stands after the image
-  all_left : (packs : List ℕ) → length packs ≡ block_count f.network → left_text f (f.image ++ packs) 0 ≡ file_text f
+  pub all_left : (packs : List ℕ) → length packs ≡ block_count f.network → left_text f (f.image ++ packs) 0 ≡ file_text f
   unfolding file_text
   all_left packs l =
       let n : visit_count f - 0 ≡ visit_count f = omega arith in

@@ -1,141 +1,277 @@
--- The laws of a step in a plan: the power that a kind reads is all that its work asks for, a bare block works as the block itself, and the
--- plan's numbers say what the record says. Assumes nothing.
-use mathlib.Core.Path.{◌≡◌, refl, sym, ap, ◌∙◌}
-use mathlib.Core.Bool.{Bool, true, false, cond}
-use mathlib.Core.List.{List}
-use Prim.Native.Nat.{ℕ, zero, suc, ◌≤◌, ◌<◌}
+-- The laws of a step's work: it does what the block's kind does, with the power that its work reads. Assumes nothing.
+use mathlib.Core.Path.{◌≡◌, refl, sym, ap, ◌∙◌, subst}
+use mathlib.Core.Bool.{Bool, true, false, cond, ◌||◌}
+use mathlib.Core.List.{List, [], ◌++◌}
+use mathlib.Core.Logic.{◌⊎◌, ⊎_elim, inl, inr}
+use mathlib.Core.Option.{Option, none}
+use Prim.Native.Nat.{ℕ, zero, suc, ◌≤◌, ◌<◌, ◌*◌}
 use native.Mathlib.Omega.{arith}
-use borrow.Author.Tests.{lt-ltb, le-ltb, eq-eqb, ne_eqb}
 use lib.Dec.{eqb, ltb}
-use lib.ListN.{length, get_or}
+use lib.ListN.{length, get_or, get_or-append}
+use Rattle.matrix.specs.declared.logic.Operation.TheVariants.{And, Or, Xor, Comp}
 use Rattle.runs.specs.Run.{unless}
-use Rattle.record.specs.declared.Block.{Block}
+use Rattle.record.specs.declared.{Block.Block, Node.Node}
 use Rattle.network.specs.Network.{Network}
-use Rattle.rules.specs.Rules.{kind}
 use Rattle.blocks.specs.declared.Power.{Power}
 use Rattle.blocks.specs.declared.Located.{Located}
 use Rattle.blocks.specs.Kind.{kind_of, has_pointer}
-use Rattle.blocks.specs.View.{seen, top_run, compared_run, seen_by, first_word, located, pointer_at}
-use Rattle.blocks.specs.Effect.{logic, compare, rotate, modify, sense, effect_of}
-use Rattle.blocks.specs.Work.{pointer_node, effect_as, effect_put, shows}
-use Rattle.blocks.specs.Answer.{finished, refused}
-use Rattle.kinds.specs.Call.{kind_fault, work_fault, pointer_word, effect_here, work_answer, work_table, pointer_shown}
+use Rattle.blocks.specs.View.{View, seen, top_run, compared_run, seen_by, first_word, located, pointer_at, view}
+use Rattle.blocks.specs.Effect.{Effect, logic, compare, rotate, modify, sense, effect_of}
+use Rattle.blocks.specs.Work.{pointer_node, one_word, matrix_put, change_put, effect_as, effect_put, effect_on, outputs, block_outputs}
+use Rattle.blocks.specs.Answer.{Worked, finished, refused}
+use Rattle.blocks.specs.Truths.{Runs}
+use Rattle.rules.specs.Rules.{kind}
+use Rattle.bits.specs.Bit.{longest}
+use Rattle.runs.specs.Run.{fault, run}
+use Rattle.runs.proofs.Refusals.{unless_done}
+use Rattle.blocks.specs.declared.Outputs.{Outputs}
+use Rattle.rules.proofs.KindFacts.{Pointed, KindFacts, accepted_means}
+use Rattle.kinds.proofs.Checked.{not_refused, word_of_node}
+use Rattle.kinds.specs.Call.{kind_fault, work_fault, pointer_word, pointer_shown}
+use Rattle.pointed.specs.declared.place.Place.{Place}
+use Rattle.kinds.specs.declared.task.Work.{Work}
+use Rattle.pointed.specs.declared.place.Place.TheVariants.{Constant, Input, Holding}
+use Rattle.kinds.specs.declared.task.Work.TheVariants.{Combine, Compare, Modify, Sense, Rotate, Unknown}
+use Rattle.pointed.specs.Places.{place_node, place_word}
+use Rattle.kinds.specs.Tasks.{task_fault, task_effect, task_matrix, task_pointer, task_answer, task_table}
+use Rattle.matrix.specs.Logic.{combined}
+use Rattle.plan.specs.Plan.{place_of, work_of}
+use Rattle.table.specs.Table.{total}
 use Rattle.scan.specs.Scans.{pointer_of}
-use Rattle.run.specs.Inner.{power, power_read, bare_at}
+use Rattle.text.specs.Text.{decimal, pointer_field, uncounted}
+use Rattle.run.specs.Inner.{power_read, shown_at, place_inside, pointer_inside, field_in, told}
 
--- ---- the power that a kind reads
-module _ (kind : ℕ) (on : Power) where
-  pub reads_top : kind < 5 → power on.top false false ≡ power_read kind on
-  reads_top l = sym (ap (λ (a : Bool). cond a (power on.top false false) (cond (eqb kind 5) (power on.top on.middle false) on)) (lt-ltb kind 5 l))
+-- ---- a pointer that is not held stays
+three : (a b : Bool) (x y w : Effect) → x.pointer ≡ none → y.pointer ≡ none → w.pointer ≡ none → (cond a (cond b x y) w).pointer ≡ none
+three true true x y w e f g = e
+three true false x y w e f g = f
+three false b x y w e f g = g
 
-  pub reads_two : 5 ≤ kind → kind ≡ 5 → power on.top on.middle false ≡ power_read kind on
-  reads_two l e =
-      sym
-      (ap (λ (a : Bool). cond a (power on.top false false) (cond (eqb kind 5) (power on.top on.middle false) on)) (le-ltb kind 5 l)
-      ∙ ap (λ (a : Bool). cond a (power on.top on.middle false) on) (eq-eqb kind 5 e))
+modify_stays : (n : ℕ) (v : View) (on : Power) → (modify false n v on).pointer ≡ none
+unfolding modify
+modify_stays n v on = three on.top (ltb (16 * n) v.pointer) _ _ _ refl refl refl
 
-  pub reads_all : 5 ≤ kind → (kind ≡ 5 → ⊥) → on ≡ power_read kind on
-  reads_all l h =
-      sym
-      (ap (λ (a : Bool). cond a (power on.top false false) (cond (eqb kind 5) (power on.top on.middle false) on)) (le-ltb kind 5 l)
-      ∙ ap (λ (a : Bool). cond a (power on.top on.middle false) on) (ne_eqb kind 5 h))
+sense_stays : (n : ℕ) (v : View) (on : Power) → (sense false n v on).pointer ≡ none
+unfolding sense
+sense_stays n v on = three on.top (ltb (16 * n) v.pointer) _ _ _ refl refl refl
 
--- ---- a bare block works as the block itself, with the power that its kind reads
-module _ (net : Network) (b : Block) (t : List ℕ) (on : Power) (low : 1 ≤ b.kind) (high : b.kind ≤ 8) (held : b.kind ≡ 5 → b.middle.class ≡ 4) where
+unwritten : (d n p q : ℕ) (e : Effect) (t : List ℕ) → e.pointer ≡ none → effect_put d n p e t ≡ effect_put d n q e t
+unfolding matrix_put
+unwritten d n p q e t h =
+    ap (λ (o : Option ℕ). matrix_put p (one_word o) (change_put d n e.destination t)) h
+    ∙ sym (ap (λ (o : Option ℕ). matrix_put q (one_word o) (change_put d n e.destination t)) h)
+
+-- ---- a pointer's place by its node's class
+module _ (net : Network) (node : Node) (t : List ℕ) where
+  abbrev at : ℕ
+  at = first_word net node
+
+  abbrev place_by : ℕ → Place
+  place_by c = cond (eqb c 9) (Constant node.number) (cond (eqb c 4) (Holding at) (Input at))
+
+  pub record Says (c : ℕ) : Type 0 where
+    pub held : eqb (place_node (place_by c)).class 4 ≡ eqb c 4
+    pub pointer : pointer_at (place_node (place_by c)) (place_word (place_by c)) t ≡ cond (eqb c 9) node.number (get_or t at 0)
+    pub word : (place_word (place_by c) ≡ at) ⊎ (eqb c 4 ≡ false)
+    pub constant : (eqb (place_node (place_by c)).class 9 || ltb (place_word (place_by c)) (length t)) ≡ (eqb c 9 || ltb at (length t))
+
+  says : (c : ℕ) → (c ≡ 9) ⊎ ((c ≡ 3) ⊎ (c ≡ 4)) → Says c
+  says c h = ⊎_elim (λ e. subst Says (sym e) nine) (λ f. ⊎_elim (λ e. subst Says (sym e) three) (λ e. subst Says (sym e) four) f) h
+    where
+      nine : Says 9
+      nine = record { word = inr refl; held = refl; pointer = refl; constant = refl }
+
+      three : Says 3
+      three = record { word = inl refl; held = refl; pointer = refl; constant = refl }
+
+      four : Says 4
+      four = record { word = inl refl; held = refl; pointer = refl; constant = refl }
+
+  pub place_says : (node.class ≡ 9) ⊎ ((node.class ≡ 3) ⊎ (node.class ≡ 4)) → Says node.class
+  place_says h = says node.class h
+
+-- ---- what a place shows, and where it lies
+shown_pointer : (u : List ℕ) (p : Place) → shown_at u p ≡ pointer_at (place_node p) (place_word p) u
+shown_pointer u (Constant v) = refl
+shown_pointer u (Input p) = refl
+shown_pointer u (Holding p) = refl
+
+module _ (net : Network) (node : Node) (t : List ℕ) (words : ℕ) where
+  place_lies : (c : ℕ) → (c ≡ 9) ⊎ ((c ≡ 3) ⊎ (c ≡ 4)) → ((c ≡ 9 → ⊥) → first_word net node < words) → place_inside words (place_by net node t c)
+  place_lies c h l = ⊎_elim (λ e. subst Lies (sym e) nine) (λ f. ⊎_elim (λ e. subst Lies (sym e) (l (λ q. omega (arith, e, q)))) (λ e. subst Lies (sym e) (l (λ q. omega (arith, e, q)))) f) h
+    where
+      Lies : ℕ → Type 0
+      Lies c = place_inside words (place_by net node t c)
+
+      nine : 0 ≤ words
+      nine = omega arith
+
+-- a field of the words at the front
+pub field_front : (xs ys : List ℕ) (w : Work) → pointer_inside (length xs) w → field_in (xs ++ ys) w ≡ field_in xs w
+field_front xs ys (Combine operation s d) l = refl
+field_front xs ys (Compare s p) l = ap decimal (get_or-append xs ys 0 p l)
+field_front xs ys (Modify (Constant v) d) l = refl
+field_front xs ys (Modify (Input p) d) l = ap decimal (get_or-append xs ys 0 p l)
+field_front xs ys (Modify (Holding p) d) l = ap decimal (get_or-append xs ys 0 p l)
+field_front xs ys (Sense (Constant v) d) l = refl
+field_front xs ys (Sense (Input p) d) l = ap decimal (get_or-append xs ys 0 p l)
+field_front xs ys (Sense (Holding p) d) l = ap decimal (get_or-append xs ys 0 p l)
+field_front xs ys (Rotate s d) l = refl
+field_front xs ys Unknown l = refl
+
+-- ---- a block's work does what its kind does
+module _ (net : Network) (earlier : ℕ) (b : Block) (t : List ℕ) (r : Runs net earlier b t) (on : Power) where
   abbrev one : Located
   one = located net b
 
-  abbrev thin : Located
-  thin = bare_at b.kind b.n b.top (first_word net b.top) (first_word net b.middle)
+  abbrev place : Place
+  place = place_by net b.top t b.top.class
 
-  fault_as : (k : ℕ) → 1 ≤ k → k ≤ 8 → kind_fault (kind_of k) thin (length t) ≡ kind_fault (kind_of k) one (length t)
-  unfolding kind_of kind_fault
-  fault_as zero l u = absurd (omega arith)
-  fault_as (suc zero) l u = refl
-  fault_as (suc (suc zero)) l u = refl
-  fault_as (suc (suc (suc zero))) l u = refl
-  fault_as (suc (suc (suc (suc zero)))) l u = refl
-  fault_as (suc (suc (suc (suc (suc zero))))) l u = refl
-  fault_as (suc (suc (suc (suc (suc (suc zero)))))) l u = refl
-  fault_as (suc (suc (suc (suc (suc (suc (suc zero))))))) l u = refl
-  fault_as (suc (suc (suc (suc (suc (suc (suc (suc zero)))))))) l u = refl
-  fault_as (suc (suc (suc (suc (suc (suc (suc (suc (suc k))))))))) l u = absurd (omega arith)
+  abbrev work_by : ℕ → Work
+  work_by k =
+      cond (eqb k 1) (Combine And one.top one.middle)
+      (cond (eqb k 2) (Combine Or one.top one.middle)
+      (cond (eqb k 3) (Combine Xor one.top one.middle)
+      (cond (eqb k 4) (Combine Comp one.top one.middle)
+      (cond (eqb k 5) (Compare one.top one.middle)
+      (cond (eqb k 6) (Modify place one.middle)
+      (cond (eqb k 7) (Sense place one.middle)
+      (cond (eqb k 8) (Rotate one.top one.middle) Unknown)))))))
 
-  word_as : (k : ℕ) → 1 ≤ k → k ≤ 8 → pointer_word (kind_of k) thin ≡ pointer_word (kind_of k) one
-  unfolding kind_of
-  word_as zero l u = absurd (omega arith)
-  word_as (suc zero) l u = refl
-  word_as (suc (suc zero)) l u = refl
-  word_as (suc (suc (suc zero))) l u = refl
-  word_as (suc (suc (suc (suc zero)))) l u = refl
-  word_as (suc (suc (suc (suc (suc zero))))) l u = refl
-  word_as (suc (suc (suc (suc (suc (suc zero)))))) l u = refl
-  word_as (suc (suc (suc (suc (suc (suc (suc zero))))))) l u = refl
-  word_as (suc (suc (suc (suc (suc (suc (suc (suc zero)))))))) l u = refl
-  word_as (suc (suc (suc (suc (suc (suc (suc (suc (suc k))))))))) l u = absurd (omega arith)
+  abbrev effect_by : ℕ → Effect
+  effect_by k = effect_as (kind_of k) b (seen_by (kind_of k) one t) on
 
-  top_as : (k : ℕ) → (power_read k on).top ≡ on.top
-  top_as k = go (ltb k 5) (eqb k 5)
-    where
-      go : (a c : Bool) → (cond a (power on.top false false) (cond c (power on.top on.middle false) on)).top ≡ on.top
-      go true c = refl
-      go false true = refl
-      go false false = refl
+  record WorksAs (w : Work) (k : ℕ) : Type 0 where
+    top : (power_read w on).top ≡ on.top
+    effect : task_effect w b.n t (power_read w on) ≡ effect_by k
+    number : task_fault w b.n (length t) ≡ cond (kind k) (kind_fault (kind_of k) one (length t)) 4
+    writes : effect_put (task_matrix w) b.n (task_pointer w) (effect_by k) t ≡ effect_put one.middle b.n (pointer_word (kind_of k) one) (effect_by k) t
+
+  facts : KindFacts net.sizes b
+  facts = accepted_means net.sizes earlier b r.good
 
   -- CMPR's pointer is a register
-  register : b.kind ≡ 5 → (r : ℕ) → get_or t r 0 ≡ pointer_at b.middle r t
-  register e r = sym (ap (λ (c : ℕ). cond (eqb c 9) b.middle.number (get_or t r 0)) (held e))
+  register : b.kind ≡ 5 → get_or t one.middle 0 ≡ pointer_at b.middle one.middle t
+  register e = sym (ap (λ (c : ℕ). cond (eqb c 9) b.middle.number (get_or t one.middle 0)) (facts.compare e).held)
 
-  effect_same : (k : ℕ) → b.kind ≡ k → 1 ≤ k → k ≤ 8
-      → effect_as (kind_of k) thin.block (seen_by (kind_of k) thin t) (power_read k on) ≡ effect_as (kind_of k) b (seen_by (kind_of k) one t) on
-  unfolding kind_of seen_by effect_of logic compare rotate modify sense
-  effect_same zero e l u = absurd (omega arith)
-  effect_same (suc zero) e l u = refl
-  effect_same (suc (suc zero)) e l u = refl
-  effect_same (suc (suc (suc zero))) e l u = refl
-  effect_same (suc (suc (suc (suc zero)))) e l u = refl
-  effect_same (suc (suc (suc (suc (suc zero))))) e l u =
-      ap (λ (p : ℕ). compare b.n (seen (top_run one t) (compared_run one t) p) on) (register e one.middle)
-  effect_same (suc (suc (suc (suc (suc (suc zero)))))) e l u = refl
-  effect_same (suc (suc (suc (suc (suc (suc (suc zero))))))) e l u = refl
-  effect_same (suc (suc (suc (suc (suc (suc (suc (suc zero)))))))) e l u = refl
-  effect_same (suc (suc (suc (suc (suc (suc (suc (suc (suc k))))))))) e l u = absurd (omega arith)
+  modifies : b.kind ≡ 6 → WorksAs (Modify place one.middle) 6
+  unfolding kind_of kind_fault seen_by effect_of logic compare rotate modify sense combined
+  modifies e =
+      let s = place_says net b.top t (facts.modify e).pointer in
+      let f = fault longest (length t) b.n one.middle one.middle in
+      record {
+        top = refl;
+        effect = λ i. modify (s.held i) b.n (seen [] (run t one.middle b.n) (s.pointer i)) on;
+        number = λ i. unless f (cond (s.constant i) 0 8) f;
+        writes = ⊎_elim
+            (λ q. ap (λ (p : ℕ). effect_put one.middle b.n p (effect_by 6) t) q)
+            (λ q. unwritten one.middle b.n (place_word place) one.top (effect_by 6) t
+            (ap (λ (h : Bool). (modify h b.n (seen [] (run t one.middle b.n) (pointer_at b.top one.top t)) on).pointer) q ∙ modify_stays b.n (seen [] (run t one.middle b.n) (pointer_at b.top one.top t)) on))
+            s.word;
+      }
 
-  fault_is : kind_fault (kind_of b.kind) thin (length t) ≡ kind_fault (kind_of b.kind) one (length t)
-  fault_is = fault_as b.kind low high
+  senses : b.kind ≡ 7 → WorksAs (Sense place one.middle) 7
+  unfolding kind_of kind_fault seen_by effect_of logic compare rotate modify sense combined
+  senses e =
+      let s = place_says net b.top t (facts.sense e).pointer in
+      let f = fault longest (length t) b.n one.middle one.middle in
+      record {
+        top = refl;
+        effect = λ i. sense (s.held i) b.n (seen (run t one.middle b.n) [] (s.pointer i)) on;
+        number = λ i. unless f (cond (s.constant i) 0 8) f;
+        writes = ⊎_elim
+            (λ q. ap (λ (p : ℕ). effect_put one.middle b.n p (effect_by 7) t) q)
+            (λ q. unwritten one.middle b.n (place_word place) one.top (effect_by 7) t
+            (ap (λ (h : Bool). (sense h b.n (seen (run t one.middle b.n) [] (pointer_at b.top one.top t)) on).pointer) q ∙ sense_stays b.n (seen (run t one.middle b.n) [] (pointer_at b.top one.top t)) on))
+            s.word;
+      }
 
-  effect_is : effect_here thin t (power_read b.kind on) ≡ effect_here one t on
-  effect_is = effect_same b.kind refl low high
+  works_as : (k : ℕ) → b.kind ≡ k → 1 ≤ k → k ≤ 8 → WorksAs (work_by k) k
+  unfolding kind_of kind_fault seen_by effect_of logic compare rotate modify sense combined
+  works_as zero e l u = absurd (omega arith)
+  works_as (suc zero) e l u = record { top = refl; effect = refl; number = refl; writes = refl }
+  works_as (suc (suc zero)) e l u = record { top = refl; effect = refl; number = refl; writes = refl }
+  works_as (suc (suc (suc zero))) e l u = record { top = refl; effect = refl; number = refl; writes = refl }
+  works_as (suc (suc (suc (suc zero)))) e l u = record { top = refl; effect = refl; number = refl; writes = refl }
+  works_as (suc (suc (suc (suc (suc zero))))) e l u = record {
+    top = refl;
+    effect = ap (λ (p : ℕ). compare b.n (seen (top_run one t) (compared_run one t) p) on) (register e);
+    number = refl;
+    writes = refl;
+  }
+  works_as (suc (suc (suc (suc (suc (suc zero)))))) e l u = modifies e
+  works_as (suc (suc (suc (suc (suc (suc (suc zero))))))) e l u = senses e
+  works_as (suc (suc (suc (suc (suc (suc (suc (suc zero)))))))) e l u = record { top = refl; effect = refl; number = refl; writes = refl }
+  works_as (suc (suc (suc (suc (suc (suc (suc (suc (suc k))))))))) e l u = absurd (omega arith)
 
-  pub bare_answers : work_answer thin t (power_read b.kind on) ≡ work_answer one t on
-  unfolding work_answer work_fault
-  bare_answers i =
-      unless (cond (kind b.kind) (fault_is i) 4)
-      (finished (shows (top_as b.kind i) (effect_is i).middle (effect_is i).bottom (effect_is i).count))
-      (refused (cond (kind b.kind) (fault_is i) 4))
+  abbrev w : Work
+  w = work_of net.sizes b
 
-  pub bare_leaves : work_table thin t (power_read b.kind on) ≡ work_table one t on
-  unfolding work_table work_fault
-  bare_leaves i =
-      unless (cond (kind b.kind) (fault_is i) 4)
-      (effect_put one.middle b.n (word_as b.kind low high i) (effect_is i) t) t
+  works : WorksAs w b.kind
+  unfolding work_of place_of
+  works = works_as b.kind refl r.good.kind_low r.good.kind_high
 
-  -- the pointer that a kind shows, if it has one
-  shown_as : (k : ℕ) → b.kind ≡ k → 5 ≤ k → k ≤ 7
-      → cond (eqb k 5) (get_or t one.middle 0) (cond (eqb b.top.class 9) b.top.number (get_or t one.top 0))
-      ≡ cond (has_pointer k) (pointer_at (pointer_node (kind_of k) b) (pointer_word (kind_of k) one) t) 0
-  unfolding kind_of
-  shown_as zero e l u = absurd (omega arith)
-  shown_as (suc zero) e l u = absurd (omega arith)
-  shown_as (suc (suc zero)) e l u = absurd (omega arith)
-  shown_as (suc (suc (suc zero))) e l u = absurd (omega arith)
-  shown_as (suc (suc (suc (suc zero)))) e l u = absurd (omega arith)
-  shown_as (suc (suc (suc (suc (suc zero))))) e l u = register e one.middle
-  shown_as (suc (suc (suc (suc (suc (suc zero)))))) e l u = refl
-  shown_as (suc (suc (suc (suc (suc (suc (suc zero))))))) e l u = refl
-  shown_as (suc (suc (suc (suc (suc (suc (suc (suc k)))))))) e l u = absurd (omega arith)
+  not_fault : task_fault w b.n (length t) ≡ 0
+  unfolding work_fault
+  not_fault = works.number ∙ not_refused net earlier b t r
 
-  pub shows_pointer : 5 ≤ b.kind → b.kind ≤ 7
-      → cond (eqb b.kind 5) (get_or t one.middle 0) (cond (eqb b.top.class 9) b.top.number (get_or t one.top 0)) ≡ pointer_of net b t
-  unfolding pointer_shown pointer_of
-  shows_pointer l u = shown_as b.kind refl l u
+  pub step_outputs : (task_answer w b.n t (power_read w on)).outputs ≡ block_outputs net b t on
+  unfolding block_outputs view
+  step_outputs =
+      ap (λ (x : Worked). x.outputs) (unless_done (task_fault w b.n (length t)) (finished (outputs (power_read w on) (task_effect w b.n t (power_read w on)))) (refused (task_fault w b.n (length t))) not_fault)
+      ∙ (λ i. record { top = works.top i; middle = (works.effect i).middle; bottom = (works.effect i).bottom; count = (works.effect i).count })
+
+  pub step_table : task_table w b.n t (power_read w on)
+      ≡ effect_put (first_word net b.middle) b.n (first_word net (pointer_node (kind_of b.kind) b)) (effect_on net b t on) t
+  unfolding view
+  step_table =
+      unless_done (task_fault w b.n (length t)) (effect_put (task_matrix w) b.n (task_pointer w) (task_effect w b.n t (power_read w on)) t) t not_fault
+      ∙ ap (λ (e : Effect). effect_put (task_matrix w) b.n (task_pointer w) e t) works.effect
+      ∙ works.writes
+      ∙ ap (λ (p : ℕ). effect_put one.middle b.n p (effect_by b.kind) t) (word_of_node (kind_of b.kind) net b)
+
+  -- ---- what its line tells
+  module _ (u : List ℕ) (out : Outputs) where
+    record ShowsAs (w : Work) (k : ℕ) : Type 0 where
+      inside : pointer_inside (total net.sizes) w
+      field : field_in u w ≡ pointer_field k (cond (has_pointer k) (pointer_at (pointer_node (kind_of k) b) (pointer_word (kind_of k) one) u) 0)
+      count : ((b.kind ≡ 5 → ⊥) → uncounted out ≡ out) → told w out ≡ out
+
+    pointed : (k : ℕ) → b.kind ≡ k → Pointed net.sizes b → (place_inside (total net.sizes) place) × (decimal (shown_at u place) ≡ decimal (pointer_at b.top one.top u))
+    pointed k e p = (
+      place_lies net b.top t (total net.sizes) b.top.class p.pointer (λ h. omega (arith, p.register h)),
+      ap decimal (shown_pointer u place ∙ (place_says net b.top u p.pointer).pointer),
+    )
+
+    shows_as : (k : ℕ) → b.kind ≡ k → 1 ≤ k → k ≤ 8 → ShowsAs (work_by k) k
+    unfolding kind_of pointer_field
+    shows_as zero e l v = absurd (omega arith)
+    shows_as (suc zero) e l v = record { inside = omega arith; field = refl; count = λ h. h (λ q. omega (arith, e, q)) }
+    shows_as (suc (suc zero)) e l v = record { inside = omega arith; field = refl; count = λ h. h (λ q. omega (arith, e, q)) }
+    shows_as (suc (suc (suc zero))) e l v = record { inside = omega arith; field = refl; count = λ h. h (λ q. omega (arith, e, q)) }
+    shows_as (suc (suc (suc (suc zero)))) e l v = record { inside = omega arith; field = refl; count = λ h. h (λ q. omega (arith, e, q)) }
+    shows_as (suc (suc (suc (suc (suc zero))))) e l v = record {
+      inside = omega (arith, (facts.compare e).pointer_and_matrix);
+      field = ap decimal (sym (ap (λ (c : ℕ). cond (eqb c 9) b.middle.number (get_or u one.middle 0)) (facts.compare e).held));
+      count = λ h. refl;
+    }
+    shows_as (suc (suc (suc (suc (suc (suc zero)))))) e l v =
+        let p = pointed 6 e (facts.modify e) in record { inside = p.0; field = p.1; count = λ h. h (λ q. omega (arith, e, q)) }
+    shows_as (suc (suc (suc (suc (suc (suc (suc zero))))))) e l v =
+        let p = pointed 7 e (facts.sense e) in record { inside = p.0; field = p.1; count = λ h. h (λ q. omega (arith, e, q)) }
+    shows_as (suc (suc (suc (suc (suc (suc (suc (suc zero)))))))) e l v = record { inside = omega arith; field = refl; count = λ h. h (λ q. omega (arith, e, q)) }
+    shows_as (suc (suc (suc (suc (suc (suc (suc (suc (suc k))))))))) e l v = absurd (omega arith)
+
+    shows : ShowsAs w b.kind
+    unfolding work_of place_of
+    shows = shows_as b.kind refl r.good.kind_low r.good.kind_high
+
+    pub work_pointer : pointer_inside (total net.sizes) w
+    work_pointer = shows.inside
+
+    pub field_is : field_in u w ≡ pointer_field b.kind (pointer_of net b u)
+    unfolding pointer_shown pointer_of
+    field_is = shows.field
+
+    pub told_is : ((b.kind ≡ 5 → ⊥) → uncounted out ≡ out) → told w out ≡ out
+    told_is = shows.count

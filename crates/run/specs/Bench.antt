@@ -1,4 +1,4 @@
--- What the bench prints (document 01, "The bench program"), for any bytes: the one line of a refusal, or the first line, the lines of
+-- What the bench prints, for any bytes: the one line of a refusal, or the first line, the lines of
 -- the visits, and the last line. Assumes nothing.
 use Rattle.std.specs.Prelude.{ℕ, ◌*◌, ◌≡◌, Bool, cond, List, ◌∷◌, ◌++◌, eqb, replicate}
 use Rattle.verdict.specs.Lists.{Words, Bytes, Text}

@@ -1,9 +1,9 @@
--- A call of the run: as many of a file's visits as have lines that surely fit into a lent buffer, from one visit on. Assumes nothing.
-use Rattle.std.specs.Prelude.{ℕ, zero, suc, ◌+◌, ◌-◌, ◌*◌, ◌/◌, ◌%◌, cond, false, ◌&&◌, List, [], ◌++◌, leb, ltb, eqb, length, drop}
+-- A call of the run: as many of a file's visits as have lines that surely fit into a lent buffer, from one visit on.
+use Rattle.std.specs.Prelude.{ℕ, zero, suc, ◌+◌, ◌-◌, ◌*◌, ◌/◌, ◌%◌, cond, false, ◌&&◌, List, [], ◌++◌, leb, ltb, eqb, length, drop, Result, Ok, Err}
 use Rattle.verdict.specs.Lists.{Words, Text}
-use Rattle.verdict.specs.declared.Verdict.{Verdict}
-use Rattle.run.specs.declared.Went.{Went}
-use Rattle.verdict.specs.Verdict.{verdict, done, then}
+use Rattle.verdict.specs.declared.Refusal.{Refusal}
+use Rattle.run.specs.declared.Page.{Page}
+use Rattle.verdict.specs.Verdict.{Verdict, number_of, verdict, done, then}
 use Rattle.network.specs.Network.{Network, block_count}
 use Rattle.file.specs.File.{File, table_words, file_in, file_checked}
 use Rattle.text.specs.Text.{head_line, end_line, longest_line}
@@ -67,6 +67,12 @@ page ws state from room = run_lines (file_in ws) state from (many (file_in ws) s
 abbrev pub next_visit : File → ℕ → ℕ
 next_visit f next = cond (eqb next (visit_count f)) (next + 1) next
 
+-- what a call says: its verdict, the visit to go on from, and how many bytes it put
+pub record Went : Type 0 where
+  pub verdict : Verdict
+  pub next : ℕ
+  pub bytes : ℕ
+
 abbrev pub went : Verdict → ℕ → ℕ → Went
 went v next bytes = record { verdict = v; next = next; bytes = bytes }
 
@@ -76,6 +82,11 @@ run_went ws state from room =
     cond (eqb (run_verdict ws (length state) from room).number 0)
     (went done (next_visit (file_in ws) (from + many (file_in ws) state from room)) (length (page ws state from room)))
     (went (run_verdict ws (length state) from room) from 0)
+
+-- what the answer of a call from a visit on says: a refused one goes on there, and has put nothing
+abbrev pub went_from : ℕ → Result Page Refusal → Went
+went_from from (Ok p) = went done p.next p.bytes
+went_from from (Err r) = went (verdict (number_of r.fault) r.place) from 0
 
 unfoldable pub run_state : Words → List ℕ → ℕ → ℕ → List ℕ
 unfolding run_verdict visits_state fitting

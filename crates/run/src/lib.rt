@@ -1,31 +1,30 @@
 // A run of a file's visits, some at a time: each block is visited and its line put at once.
 //
-// The call takes any words, any state and any buffer. A state is the table and after it a word for each block, its outputs when it was
-// last visited, packed. The call does its work, or it refuses with document 01's number and place and changes nothing. It may stop between
-// any two blocks, and it says where to go on.
+// The call takes any words, any state and any buffer. A state is the table and after it a word for each block, its
+// outputs when it was last visited, packed. The call does its work, or it refuses and changes nothing. It may stop
+// between any two blocks, and it says where to go on.
 #![tactic(auto)]
 
 mod visit;
 mod visits;
 
-ghost use Rattle.std.specs.Prelude.{cond, [], ◌+◌, ◌≤◌, eqb, length};
-ghost use Rattle.verdict.specs.Promise.{LeavesTwo};
+ghost use Rattle.std.specs.Prelude.{◌≡◌, cond, [], ◌+◌, ◌≤◌, eqb, length};
 ghost use Rattle.text.specs.Text.{longest_line, head_line, end_line};
 ghost use Rattle.text.specs.Inner.{Put};
-ghost use Rattle.run.specs.Page.{run_went, run_state, run_text};
+ghost use Rattle.run.specs.Page.{went_from, run_went, run_state, run_text};
 ghost use Rattle.run.specs.Inner.{Taken, Done};
 
-use crate::visits::{Reached, put_visits};
+use crate::visits::put_visits;
 use ends::{put_end, put_head};
 use file::OpenedFile;
 use text::LONGEST_LINE;
-use verdict::Verdict;
+use verdict::{Fault, Refusal};
 pub use visits::VISIT_ROOM;
 
-// The verdict, the visit to go on from, and how many bytes were put into the buffer. Past the last visit the run is at its end.
-#[derive(Clone, Copy)]
-pub struct Went {
-    pub verdict: Verdict,
+/// Where a call stopped: the visit to go on from, which the next call takes as it is, and how many bytes were put into
+/// the buffer. Past the last visit the run is at its end.
+#[derive(Clone, Copy, Debug, PartialEq, Eq)]
+pub struct Page {
     pub next: usize,
     pub bytes: usize,
 }
@@ -55,88 +54,43 @@ fn put_last(text: &mut [u8], at: usize, next: usize, visits: usize, scans: u16) 
     put_end(text, at, scans)
 }
 
-// The visits from one on of a file that was checked before, as many as surely fit, and their lines at the front of the buffer, with the
-// first line and the last where they stand.
+// The visits from one on of a file that was checked before, as many as surely fit, and their lines at the front of the
+// buffer, with the first line and the last where they stand.
 fn put_page(
     words: &[u16],
-    file: OpenedFile,
-    visits: usize,
+    file: &OpenedFile,
     state: &mut [u16],
     from: usize,
     text: &mut [u8],
-) -> Reached
-    requires { Taken words.now file visits state.old from text.old }
+) -> Page
+    requires { Taken words.now file.now state.old from text.old }
     ensures { Done words.now state.old from text.old result state.new text.new }
 {
     let count = file.network.count();
-    let size = file.words;
-    let at = put_first(text, from, count, size as u16);
-    let reached = put_visits(
-        words,
-        file.network,
-        count as usize,
-        size,
-        state,
-        from,
-        visits,
-        text,
-        at,
-    );
+    let visits = file.scans as usize * count as usize;
+    let at = put_first(text, from, count, file.words as u16);
+    let reached = put_visits(words, file, state, from, text, at);
     let visit = reached.visit;
-    let at = put_last(text, reached.at, visit, visits, file.scans);
-    Reached { visit, at }
+    let bytes = put_last(text, reached.at, visit, visits, file.scans);
+    let next = if visit == visits { visit + 1 } else { visit };
+    Page { next, bytes }
 }
 
-// As many of the file's visits as surely fit, from visit `from` on, on a state: their lines go to the front of the buffer, with the first
-// line before visit 0 and the last line after the last visit.
-pub fn run(words: &[u16], state: &mut [u16], from: usize, text: &mut [u8]) -> Went
-    ensures { LeavesTwo
-        (run_went words.now state.old from (length text.old))
-        (run_state words.now state.old from (length text.old))
-        (run_text words.now state.old from text.old)
-        result state.new text.new }
+/// As many of the file's visits as surely fit, from visit `from` on, on a state: their lines go to the front of the
+/// buffer, with the first line before visit 0 and the last line after the last visit. Refused are words that are no
+/// file, and then with a fault of the call a state that has not the words of the file's table and one for each block, a
+/// visit past the last, and a buffer that has not room for the first line, a visit's and the last.
+#[tactic(auto, using(crate::proofs::Running::bad_file, crate::proofs::Running::is_taken))]
+pub fn run(words: &[u16], state: &mut [u16], from: usize, text: &mut [u8]) -> Result<Page, Refusal>
+    ensures answer { went_from from result ≡ run_went words.now state.old from (length text.old) }
+    ensures state { state.new ≡ run_state words.now state.old from (length text.old) }
+    ensures text { text.new ≡ run_text words.now state.old from text.old }
 {
-    let file = file::check(words, false);
-    let verdict = file.verdict;
-    if verdict.number != 0 {
-        return Went {
-            verdict,
-            next: from,
-            bytes: 0,
-        };
-    }
-    let short = Went {
-        verdict: Verdict {
-            number: 12,
-            place: 0,
-        },
-        next: from,
-        bytes: 0,
-    };
+    let file = file::check(words, false)?;
     let count = file.network.count() as usize;
     let visits = file.scans as usize * count;
-    if state.len() != file.words + count {
-        return short;
+    if state.len() != file.words + count || visits < from || text.len() < LEAST_ROOM {
+        return Err(Fault::Call.at(0));
     }
-    if visits < from {
-        return short;
-    }
-    if text.len() < LEAST_ROOM {
-        return short;
-    }
-    let reached = put_page(words, file, visits, state, from, text);
-    let next = reached.visit;
-    let bytes = reached.at;
-    if next == visits {
-        return Went {
-            verdict,
-            next: next + 1,
-            bytes,
-        };
-    }
-    Went {
-        verdict,
-        next,
-        bytes,
-    }
+    Ok(put_page(words, &file, state, from, text))
 }

@@ -2,10 +2,13 @@
 -- does in either case. Assumes nothing.
 use mathlib.Core.Path.{◌≡◌, refl, sym, ap, ◌∙◌}
 use mathlib.Core.Bool.{Bool, true, false, cond, ◌&&◌, false≢true}
-use Prim.Native.Nat.{ℕ, ◌+◌, ◌*◌, ◌≤◌, ◌<◌}
+use Prim.Native.Nat.{ℕ, ◌+◌, ◌*◌}
 use native.Mathlib.Omega.{arith}
-use borrow.Author.Tests.{le-leb, lt-leb, leb-true, eq-eqb, ne_eqb, eqb-true}
+use borrow.Author.Tests.{le-leb, leb-true, eq-eqb, ne_eqb, eqb-true}
 use lib.Dec.{leb, eqb}
+use Rattle.verdict.specs.declared.Fault.{Fault}
+use Rattle.verdict.specs.Verdict.{number_of}
+use Rattle.verdict.proofs.Said.{no_zero}
 use Rattle.bits.specs.Bit.{longest}
 use Rattle.runs.specs.Run.{fault, fault_at, unless, Accepted, Positioned}
 
@@ -16,25 +19,12 @@ unless_done number done refused e = ap (λ (b : Bool). cond b done refused) (eq-
 pub unless_refused {ℓ} : {X : Type ℓ} (number : ℕ) (done refused : X) → (number ≡ 0 → ⊥) → unless number done refused ≡ refused
 unless_refused number done refused h = ap (λ (b : Bool). cond b done refused) (ne_eqb number 0 h)
 
+-- where a fault refuses, what was there stays
+pub stays {ℓ} : {X : Type ℓ} (fault : Fault) (number : ℕ) (done refused : X) → number_of fault ≡ number → refused ≡ unless number done refused
+stays fault number done refused e = sym (unless_refused number done refused (λ z. no_zero fault (e ∙ z)))
+
 -- ---- two runs
 module _ (most words n a b : ℕ) where
-  -- the refusals, one test after the other
-  pub fault_empty : n ≡ 0 → fault most words n a b ≡ 5
-  unfolding fault
-  fault_empty e = simp (lt-leb 1 n (omega arith))
-
-  pub fault_long : 1 ≤ n → most < n → fault most words n a b ≡ 5
-  unfolding fault
-  fault_long l u = simp (le-leb 1 n l, lt-leb n most u)
-
-  pub fault_first : 1 ≤ n → n ≤ most → words < a + n → fault most words n a b ≡ 8
-  unfolding fault
-  fault_first l u h = simp (le-leb 1 n l, le-leb n most u, lt-leb (a + n) words h)
-
-  pub fault_second : 1 ≤ n → n ≤ most → a + n ≤ words → words < b + n → fault most words n a b ≡ 8
-  unfolding fault
-  fault_second l u h k = simp (le-leb 1 n l, le-leb n most u, le-leb (a + n) words h, lt-leb (b + n) words k)
-
   pub fault_none : Accepted most words n a b → fault most words n a b ≡ 0
   unfolding fault
   fault_none h =
@@ -75,19 +65,9 @@ located words n s p e =
     record { run_accepted = accepted longest words n s s h.0; counted = leb-true 1 p h.1; within = leb-true p (16 * n) h.2 }
 
 module _ (words n s p : ℕ) where
-  pub fault_at_run : (fault longest words n s s ≡ 0 → ⊥) → fault_at words n s p ≡ fault longest words n s s
-  unfolding fault_at
-  fault_at_run h = unless_refused (fault longest words n s s) (cond (leb 1 p && leb p (16 * n)) 0 8) (fault longest words n s s) h
-
   fault_at_position : fault longest words n s s ≡ 0 → fault_at words n s p ≡ cond (leb 1 p && leb p (16 * n)) 0 8
   unfolding fault_at
   fault_at_position e = unless_done (fault longest words n s s) (cond (leb 1 p && leb p (16 * n)) 0 8) (fault longest words n s s) e
-
-  pub fault_at_zero : fault longest words n s s ≡ 0 → p ≡ 0 → fault_at words n s p ≡ 8
-  fault_at_zero e z = fault_at_position e ∙ simp (lt-leb 1 p (omega arith))
-
-  pub fault_at_past : fault longest words n s s ≡ 0 → 1 ≤ p → 16 * n < p → fault_at words n s p ≡ 8
-  fault_at_past e l u = fault_at_position e ∙ simp (le-leb 1 p l, lt-leb p (16 * n) u)
 
   pub fault_at_none : Positioned words n s p → fault_at words n s p ≡ 0
   fault_at_none h =

@@ -1,4 +1,4 @@
--- Runs of words in a table, and the refusals of a call that is handed one (document 01, "The table" and "Numbers returned").
+-- Runs of words in a table, and the refusals of a call that is handed one.
 --
 -- A table is a list of words. A matrix of n words lies in it from word s on, words counted from 0; matrices may overlap.
 -- A length that the call does not take is refused with 5, a run outside the table and a position outside the matrix with 8,

@@ -1,5 +1,5 @@
--- The laws of a coil that is put: a bit of the coil area, stored in its word. Assumes nothing.
-use mathlib.Core.Path.{◌≡◌, sym, ap, ◌∙◌}
+-- The laws of a coil that is put: a bit of the coil area, stored in its word.
+use mathlib.Core.Path.{◌≡◌, sym, ap, ap₂, ◌∙◌}
 use mathlib.Core.Bool.{Bool, cond}
 use mathlib.Core.List.{List}
 use Prim.Native.Nat.{ℕ, ◌+◌, ◌-◌, ◌*◌, ◌/◌, ◌%◌, ◌^◌, ◌≤◌, ◌<◌}
@@ -22,12 +22,13 @@ module _ (net : Network) (number : ℕ) (on : Bool) (t : List ℕ) where
   unfolding coil_put by_number
   no_coil e = ap by_number (sym (eq-eqb number 0 e))
 
-  pub coil_stored : (number ≡ 0 → ⊥) → net.sizes.coils ≤ length t → number ≤ 16 * net.sizes.coils → ((k : ℕ) → get_or t k 0 < 2 ^ 16)
-      → {w : ℕ} → w ≡ word_with (put (get_or t ((number - 1) / 16) 0) ((number - 1) % 16 + 1) on) → set t ((number - 1) / 16) w ≡ coil_put net number on t
+  pub coil_stored : (i : ℕ) → number ≡ i + 1 → net.sizes.coils ≤ length t → number ≤ 16 * net.sizes.coils → ((k : ℕ) → get_or t k 0 < 2 ^ 16)
+      → (w : ℕ) → w ≡ word_with (put (get_or t (i / 16) 0) (i % 16 + 1) on) → set t (i / 16) w ≡ coil_put net number on t
   unfolding coil_put by_number
-  coil_stored e inside l small {w} q =
-      let from : 0 + (number - 1) / 16 ≡ (number - 1) / 16 = omega arith in
-      ap (λ (i : ℕ). set t i w) (sym from)
+  coil_stored i e inside l small w q =
+      let word : i / 16 ≡ 0 + (number - 1) / 16 = omega arith in
+      let place : i % 16 ≡ (number - 1) % 16 = omega arith in
+      ap (λ (j : ℕ). set t j w) word
       ∙ put_stored t 0 net.sizes.coils number (omega (arith, inside)) (omega (arith, e)) l on small w
-      (q ∙ ap (λ (i : ℕ). word_with (put (get_or t i 0) ((number - 1) % 16 + 1) on)) (sym from))
-      ∙ ap by_number (sym (ne_eqb number 0 e))
+      (q ∙ ap₂ (λ (j p : ℕ). word_with (put (get_or t j 0) (p + 1) on)) word place)
+      ∙ ap by_number (sym (ne_eqb number 0 (λ z. omega (arith, e, z))))

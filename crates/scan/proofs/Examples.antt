@@ -1,4 +1,4 @@
--- P1 to P14 of document 01, computed by the definitions. Assumes nothing.
+-- The cases P1 to P14, computed by the definitions.
 use mathlib.Core.Path.{refl}
 use mathlib.Core.Bool.{xor}
 use mathlib.Core.List.{flat_map}

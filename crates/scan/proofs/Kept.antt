@@ -1,5 +1,5 @@
 -- What a scan keeps: a refusal everything, and any scan the length of the table, the discrete inputs and the input registers.
--- Assumes nothing.
+--
 use mathlib.Core.Path.{◌≡◌, refl, sym, ap, ◌∙◌, subst}
 use mathlib.Core.Bool.{Bool, true, false, cond, ◌&&◌}
 use mathlib.Core.List.{List, ◌++◌, map}
@@ -8,13 +8,12 @@ use native.Mathlib.Omega.{arith}
 use borrow.Author.Tests.{eqb-true, eqb-false, eq-eqb, ne_eqb, leb-true}
 use lib.Dec.{eqb, leb}
 use lib.ListN.{length, drop}
-use Rattle.verdict.specs.declared.Verdict.{Verdict}
 use Rattle.bits.specs.Bit.{bit}
 use Rattle.verdict.specs.Promise.{Keeps}
 use Rattle.record.specs.declared.Block.{Block}
 use Rattle.table.specs.Table.{total}
 use Rattle.network.specs.Network.{Network, block_of, block_count}
-use Rattle.verdict.specs.Verdict.{verdict, done, then}
+use Rattle.verdict.specs.Verdict.{Verdict, verdict, done, then, Said, numbered}
 use Rattle.network.specs.Check.{checked, network_in}
 use Rattle.network.specs.Sound.{GoodNetwork}
 use Rattle.network.proofs.Values.{accepted_good}
@@ -148,11 +147,11 @@ pub refusal_keeps : RefusalKeeps
 refusal_keeps ws t numbers h = (table_kept ws t (length numbers) h, numbers_kept ws t numbers h)
 
 -- and so whatever the contract allows with a refusal for its answer
-pub packed_keeps_table : Keeps packed_reads.Post (λ κs v. v.number ≡ 0 → ⊥) (λ κs a. a.1.0.now) (λ κs s. s.1.0.now)
-packed_keeps_table κs a v s p h = p.leaves_one ∙ table_kept _ _ _ (λ e. h (ap (λ (x : Verdict). x.number) p.answers ∙ e))
+pub packed_keeps_table : Keeps packed_reads.Post (λ κs r. (numbered r).verdict.number ≡ 0 → ⊥) (λ κs a. a.1.0.now) (λ κs s. s.1.0.now)
+packed_keeps_table κs a r s p h = p.1.0 ∙ table_kept _ _ _ (λ e. h (ap (λ (x : Said Unit). x.verdict.number) p.0 ∙ e))
 
-pub packed_keeps_outputs : Keeps packed_reads.Post (λ κs v. v.number ≡ 0 → ⊥) (λ κs a. a.1.1.0.now) (λ κs s. s.1.1.0.now)
-packed_keeps_outputs κs a v s p h = p.leaves_other ∙ numbers_kept _ _ _ (λ e. h (ap (λ (x : Verdict). x.number) p.answers ∙ e))
+pub packed_keeps_outputs : Keeps packed_reads.Post (λ κs r. (numbered r).verdict.number ≡ 0 → ⊥) (λ κs a. a.1.1.0.now) (λ κs s. s.1.1.0.now)
+packed_keeps_outputs κs a r s p h = p.1.1 ∙ numbers_kept _ _ _ (λ e. h (ap (λ (x : Said Unit). x.verdict.number) p.0 ∙ e))
 
 pub same_long_after : ScanSameLong
 unfolding scan_table

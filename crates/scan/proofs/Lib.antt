@@ -1,4 +1,5 @@
 -- The laws of the definitions, those that join the code to them, and what is true of a scan.
+pub mod Blocks
 pub mod Coils
 pub mod Determined
 pub mod Examples

@@ -1,4 +1,4 @@
--- The laws of the list of a network's records, which is filled entry by entry. Assumes nothing.
+-- The laws of the list of a network's records, which is filled entry by entry.
 use mathlib.Core.Path.{◌≡◌, refl, sym, ap, ap₂, ◌∙◌}
 use mathlib.Core.Bool.{Bool, true, false}
 use mathlib.Core.List.{List}
@@ -11,7 +11,7 @@ use lib.Seq.{get_or-set_same, get_or-set_other}
 use Rattle.table.specs.declared.sizes.Sizes.{Sizes}
 use Rattle.record.specs.declared.Block.{Block}
 use Rattle.network.specs.Network.{Network, areas_only, block_of}
-use Rattle.blocks.specs.View.{first_word}
+use Rattle.blocks.specs.View.{located}
 use Rattle.blocks.specs.declared.Located.{Located}
 use Rattle.scan.specs.Inner.{located_at}
 
@@ -28,11 +28,6 @@ one_filled net {k} blocks {one} h l e i u d = go (eqb i k) refl
         ap (λ (n : ℕ). get_or (set blocks k one) n d) same ∙ get_or-set_same blocks k one d l ∙ e ∙ ap (located_at net) (sym same)
     go false q = let other = eqb-false i k q in get_or-set_other blocks k i one d other ∙ h i (omega (arith, u)) d
 
--- a record that was read, and the indexes that were worked out, are the next block's
-pub is_located : (net : Network) (k : ℕ) {z : Sizes} {b : Block} {top middle : ℕ} → z ≡ net.sizes → b ≡ block_of net k
-    → top ≡ first_word (areas_only z) b.top → middle ≡ first_word (areas_only z) b.middle → ◌≡◌ {A = Located} (record { block = b; top = top; middle = middle }) (located_at net k)
-is_located net k p q e f = λ i. record {
-  block = q i;
-  top = (e ∙ ap₂ (λ (y : Sizes) (c : Block). first_word (areas_only y) c.top) p q) i;
-  middle = (f ∙ ap₂ (λ (y : Sizes) (c : Block). first_word (areas_only y) c.middle) p q) i;
-}
+-- a record that was read, located by an opening's areas, is the next block's
+pub is_located : (net : Network) (k : ℕ) {z : Sizes} {b : Block} → z ≡ net.sizes → b ≡ block_of net k → located (areas_only z) b ≡ located_at net k
+is_located net k p q = ap₂ (λ (y : Sizes) (c : Block). located (areas_only y) c) p q

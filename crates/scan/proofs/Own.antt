@@ -1,4 +1,4 @@
--- A block's own output and its own pointer among those of a scan: what it shows when it is done. Assumes nothing.
+-- A block's own output and its own pointer among those of a scan: what it shows when it is done.
 use mathlib.Core.Path.{◌≡◌, sym, ap, ◌∙◌}
 use mathlib.Core.List.{List, [], ◌∷◌, ◌++◌}
 use Prim.Native.Nat.{ℕ, zero, suc, ◌+◌, ◌-◌, ◌≤◌, ◌<◌}

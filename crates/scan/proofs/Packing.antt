@@ -1,5 +1,5 @@
 -- Outputs that are packed and unpacked are the same where their count has room; so are those of a list, and of the first blocks of a scan.
--- Assumes nothing.
+--
 use mathlib.Core.Path.{◌≡◌, refl, sym, ap₂, subst}
 use mathlib.Core.Bool.{Bool, true, false, cond}
 use mathlib.Core.List.{List, [], ◌∷◌, ◌++◌, map}

@@ -1,4 +1,4 @@
--- The laws of scans, one after the other: how many outputs a scan has, the table with one scan more, and how long it is. Assumes nothing.
+-- The laws of scans, one after the other: how many outputs a scan has, the table with one scan more, and how long it is.
 use mathlib.Core.Path.{◌≡◌, refl, ◌∙◌}
 use mathlib.Core.List.{List, map}
 use Prim.Native.Nat.{ℕ, zero, suc}

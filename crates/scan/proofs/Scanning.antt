@@ -1,20 +1,22 @@
 -- The laws of the first k blocks of a scan: the state that they leave, with an output for each, and their pointers; of all blocks;
--- and of an opening and its reader: the network's sizes, its count, and the record of the next block. Assumes nothing.
-use mathlib.Core.Path.{◌≡◌, refl, sym, ap, ◌∙◌}
+-- and of an opening and its reader: the network's sizes, its count, and the record of the next block.
+use mathlib.Core.Path.{◌≡◌, refl, sym, ap, ◌∙◌, subst}
 use mathlib.Core.List.{List, [], ◌∷◌, ◌++◌}
 use Prim.Native.Nat.{ℕ, suc, ◌+◌, ◌≤◌, ◌<◌}
 use native.Mathlib.Omega.{arith}
 use lib.ListN.{length, take, length-append}
 use lib.Seq.{take-suc, take-length, length-take-le}
-use Rattle.verdict.specs.declared.Verdict.{Verdict}
 use Rattle.record.specs.declared.Block.{Block}
 use Rattle.network.specs.declared.checker.Opened.{Opened}
-use Rattle.network.specs.declared.reading.Read.TheVariants.{Record, Refused}
+use Rattle.std.specs.Prelude.{Result, Ok}
+use Rattle.verdict.specs.declared.Refusal.{Refusal}
+use Rattle.verdict.specs.Verdict.{numbered}
+use Rattle.verdict.proofs.Said.{numbered_once}
 use Rattle.network.specs.Network.{Network, no_block, block_of, block_count}
-use Rattle.network.specs.Check.{opened, checked, network_in, record_said, read_at}
-use Rattle.network.proofs.ReadAt.{said_once}
-use Rattle.network.proofs.Values.{opened_sizes, opened_count, reads_block}
+use Rattle.network.specs.Check.{opened_value, network_in, read_at}
+use Rattle.network.proofs.Values.{accepted_good, opened_sizes, opened_count, reads_block}
 use Rattle.scan.specs.Scan.{State, fresh, step, steps, scanned}
+use Rattle.scan.specs.Inner.{Legible}
 use Rattle.scan.specs.Scans.{pointer_of, pointers_after, scan_pointers}
 
 -- ---- blocks and then others
@@ -84,19 +86,20 @@ module _ (net : Network) (t : List ℕ) where
   all_outs_count = omega (arith, outs_long net net.blocks (fresh t))
 
 -- ---- an opening has the sizes and the count of the network
-module _ (ws : List ℕ) {o : Opened} (e : o ≡ opened ws) where
+module _ (ws : List ℕ) {o : Opened} (e : o ≡ opened_value ws) where
   pub sizes_are : o.sizes ≡ (network_in ws).sizes
   sizes_are = ap (λ (x : Opened). x.sizes) e ∙ opened_sizes ws
 
   pub count_is : o.count ≡ block_count (network_in ws)
   count_is = ap (λ (x : Opened). x.count) e ∙ opened_count ws
 
--- ---- the reader's answer is the record of the next block
-module _ (ws : List ℕ) (o : Opened) (k : ℕ) (e : o ≡ opened ws) (h : (checked ws).number ≡ 0) (l : k < block_count (network_in ws)) where
-  pub is_next : {b : Block} → read_at ws o (k + 1) ≡ record_said (Record b) → b ≡ block_of (network_in ws) k
-  is_next {b} q = let p : Record b ≡ Record (block_of (network_in ws) k) = said_once (Record b) (Record (block_of (network_in ws) k)) (sym q ∙ reads_block ws o k e h l) in cc
+-- ---- of accepted words, there are at most 128 blocks, and the reader gives the next one
+module _ (ws : List ℕ) (o : Opened) (k : ℕ) (g : Legible ws o) (l : k < o.count) where
+  pub below : k < block_count (network_in ws)
+  below = subst (λ (n : ℕ). k < n) (count_is ws g.opens) l
 
-  pub is_read : {v : Verdict} → read_at ws o (k + 1) ≡ record_said (Refused v) → ⊥
-  is_read {v} q =
-      let p : Refused v ≡ Record (block_of (network_in ws) k) = said_once (Refused v) (Record (block_of (network_in ws) k)) (sym q ∙ reads_block ws o k e h l) in
-      let z : ◌≡◌ {A = ℕ} 0 1 = cc in omega arith
+  pub below_most : k < 128
+  below_most = omega (arith, below, (accepted_good ws g.accepted).few)
+
+  pub next_read : (r : Result Block Refusal) → numbered r ≡ read_at ws o (k + 1) → r ≡ Ok (block_of (network_in ws) k)
+  next_read r q = numbered_once r (Ok (block_of (network_in ws) k)) (q ∙ reads_block ws o k g.opens g.accepted below)

@@ -1,98 +1,112 @@
 -- The laws of a scan's verdict: each refusal keeps the table and the outputs, and what is not refused is scanned. `o` is the network's
--- opening. Assumes nothing.
-use mathlib.Core.Path.{◌≡◌, refl, sym, ap, ◌∙◌, subst}
+-- opening.
+use mathlib.Core.Path.{◌≡◌, refl, sym, ap, ◌∙◌}
 use mathlib.Core.Bool.{Bool, true, false, cond, ◌&&◌}
 use mathlib.Core.List.{List}
-use Prim.Native.Nat.{ℕ, ◌≤◌, ◌<◌}
-use native.Mathlib.Omega.{arith}
-use borrow.Author.Tests.{eq-eqb, ne_eqb, le-leb, lt-leb}
+use Prim.Native.Nat.{ℕ}
 use lib.Dec.{eqb, leb}
 use lib.ListN.{length}
-use Rattle.verdict.specs.declared.Verdict.{Verdict}
-use Rattle.verdict.specs.Promise.{LeavesTwo}
+use Rattle.std.specs.Prelude.{Result, Ok, Err}
+use Rattle.verdict.specs.declared.Fault.TheVariants.{Call}
+use Rattle.verdict.specs.declared.Refusal.{Refusal}
+use Rattle.verdict.proofs.Said.{no_zero, refused_is, done_is, value_is, says, stops}
 use Rattle.network.specs.declared.checker.Opened.{Opened}
 use Rattle.table.specs.Table.{total}
 use Rattle.network.specs.Network.{block_count}
-use Rattle.verdict.specs.Verdict.{verdict, done}
-use Rattle.network.specs.Check.{opened, checked, network_in}
+use Rattle.verdict.specs.Verdict.{Verdict, verdict, done, then, number_of, refusal, numbered, said_by}
+use Rattle.network.specs.Check.{opened_value, checked, network_in}
 use Rattle.scan.specs.Scan.{scan_verdict, scan_table, scan_packed}
-use Rattle.scan.specs.Inner.{AllReady, AllRan}
-use Rattle.scan.proofs.Kept.{done_table, done_outputs, table_kept, numbers_kept}
-use Rattle.scan.proofs.Scanning.{sizes_are, count_is}
+use Rattle.scan.specs.Inner.{AllReady, AllRan, fit_test}
+use Rattle.scan.proofs.Kept.{checks, exact_table, enough, done_table, done_outputs, table_kept, numbers_kept}
 
 -- the verdict by its tests
-pub by_tests : (ws t : List ℕ) (room : ℕ) (fine long enough : Bool) → eqb (checked ws).number 0 ≡ fine → eqb (length t) (total (network_in ws).sizes) ≡ long → leb (block_count (network_in ws)) room ≡ enough
-    → scan_verdict ws (length t) room ≡ cond fine (cond (long && enough) done (verdict 12 0)) (checked ws)
+pub by_tests : (ws : List ℕ) (size room : ℕ) (fine long enough : Bool) → eqb (checked ws).number 0 ≡ fine → eqb size (total (network_in ws).sizes) ≡ long → leb (block_count (network_in ws)) room ≡ enough
+    → scan_verdict ws size room ≡ cond fine (cond (long && enough) done (verdict 12 0)) (checked ws)
 unfolding scan_verdict
-by_tests ws t room fine long enough p q r i = cond (p i) (cond (q i && r i) done (verdict 12 0)) (checked ws)
+by_tests ws size room fine long enough p q r i = cond (p i) (cond (q i && r i) done (verdict 12 0)) (checked ws)
 
-and_off : (a : Bool) → (a && false) ≡ false
-and_off true = refl
-and_off false = refl
+-- ---- whether words are admitted, with a table of so many words and a list of so many entries
+module _ (ws : List ℕ) (size room : ℕ) where
+  pub words_refused : (r : Refusal) → numbered (Err r) ≡ said_by (checked ws) (opened_value ws) → numbered (Err r) ≡ said_by (scan_verdict ws size room) (opened_value ws)
+  unfolding scan_verdict
+  words_refused r e = stops r (checked ws) _ (opened_value ws) (opened_value ws) e
 
--- what the contract says of an answer, a table and outputs that are left
-abbrev pub Answered : List ℕ → List ℕ → List ℕ → Verdict → List ℕ → List ℕ → Type 0
-Answered ws t outputs r table packs =
-    LeavesTwo (scan_verdict ws (length t) (length outputs)) (scan_table ws t (length outputs)) (scan_packed ws t outputs) r table packs
+  module _ (o : Opened) (e : numbered (Ok o) ≡ said_by (checked ws) (opened_value ws)) where
+    -- the test goes by the network
+    here : o ≡ opened_value ws
+    here = value_is o (checked ws) (opened_value ws) e
 
+    fits : Bool
+    fits = eqb size (total (network_in ws).sizes) && leb (block_count (network_in ws)) room
+
+    test_is : fit_test o size room ≡ cond fits (Ok tt) (Err (refusal Call 0))
+    unfolding fits
+    test_is = ap (λ (x : Opened). fit_test x size room) here
+
+    verdict_is : scan_verdict ws size room ≡ cond fits done (verdict 12 0)
+    unfolding scan_verdict fits
+    verdict_is = ap (λ (v : Verdict). then v (cond fits done (verdict 12 0))) (done_is o (checked ws) (opened_value ws) e)
+
+    pub call_refused : (r : Refusal) → Err r ≡ fit_test o size room → numbered (Err r) ≡ said_by (scan_verdict ws size room) (opened_value ws)
+    call_refused r q = says r (scan_verdict ws size room) (opened_value ws) (go fits (q ∙ test_is) ∙ sym verdict_is)
+      where
+        go : (b : Bool) → ◌≡◌ {A = Result Unit Refusal} (Err r) (cond b (Ok tt) (Err (refusal Call 0))) → verdict (number_of r.fault) r.place ≡ cond b done (verdict 12 0)
+        go true p = let z : ◌≡◌ {A = Result Unit Refusal} (Err r) (Ok tt) = p in cc
+        go false p = ap (λ (x : Result Unit Refusal). (numbered x).verdict) p
+
+    pub taken : Ok (tt {0}) ≡ fit_test o size room → numbered (Ok o) ≡ said_by (scan_verdict ws size room) (opened_value ws)
+    taken q = ap (λ (x : Opened). numbered (Ok x)) here ∙ ap (λ (v : Verdict). said_by v (opened_value ws)) (go fits (q ∙ test_is) ∙ sym verdict_is)
+      where
+        go : (b : Bool) → ◌≡◌ {A = Result Unit Refusal} (Ok tt) (cond b (Ok tt) (Err (refusal Call 0))) → done ≡ cond b done (verdict 12 0)
+        go true p = refl
+        go false p = let z : ◌≡◌ {A = Result Unit Refusal} (Ok tt) (Err (refusal Call 0)) = p in cc
+
+pub ruleset admitting = (words_refused, call_refused, taken)
+
+-- ---- what is left
 module _ (ws t outputs : List ℕ) where
   -- a refusal
-  refused : (v : Verdict) → scan_verdict ws (length t) (length outputs) ≡ v → (v.number ≡ 0 → ⊥) → Answered ws t outputs v t outputs
-  refused v e h =
-      let no : (scan_verdict ws (length t) (length outputs)).number ≡ 0 → ⊥ = λ q. h (sym (ap (λ (x : Verdict). x.number) e) ∙ q) in
-      record {
-        answers = sym e;
-        leaves_one = sym (table_kept ws t (length outputs) no);
-        leaves_other = sym (numbers_kept ws t outputs no);
-      }
+  module _ (r : Refusal) (e : numbered (Err r) ≡ said_by (scan_verdict ws (length t) (length outputs)) (opened_value ws)) where
+    refused : (scan_verdict ws (length t) (length outputs)).number ≡ 0 → ⊥
+    refused q =
+        no_zero r.fault
+        (sym (ap (λ (v : Verdict). v.number) (refused_is r (scan_verdict ws (length t) (length outputs)) (opened_value ws) e)) ∙ q)
 
-  module _ {o : Opened} (e : o ≡ opened ws) where
-    pub refused_words : {v : Verdict} → v ≡ o.verdict → (v.number ≡ 0 → ⊥) → Answered ws t outputs v t outputs
-    refused_words {v} same h =
-        let is : v ≡ checked ws = same ∙ ap (λ (x : Opened). x.verdict) e in
-        refused v
-        (by_tests ws t (length outputs) false _ _ (ne_eqb (checked ws).number 0 (λ q. h (ap (λ (x : Verdict). x.number) is ∙ q))) refl refl ∙ sym is) h
+    pub refusal_said : numbered (Err r) ≡ said_by (scan_verdict ws (length t) (length outputs)) (tt {0})
+    refusal_said =
+        says r (scan_verdict ws (length t) (length outputs)) tt
+        (sym (refused_is r (scan_verdict ws (length t) (length outputs)) (opened_value ws) e))
 
-    -- from here on the words are accepted
-    module _ (h : o.verdict.number ≡ 0) where
-      fine : (checked ws).number ≡ 0
-      fine = sym (ap (λ (x : Opened). x.verdict.number) e) ∙ h
+    pub same_table : t ≡ scan_table ws t (length outputs)
+    same_table = sym (table_kept ws t (length outputs) refused)
 
-      pub refused_table : (length t ≡ total o.sizes → ⊥) → Answered ws t outputs (verdict 12 0) t outputs
-      refused_table n =
-          refused (verdict 12 0)
-          (by_tests ws t (length outputs) true false _ (eq-eqb (checked ws).number 0 fine)
-          (ne_eqb (length t) (total (network_in ws).sizes) (λ q. n (q ∙ sym (ap total (sizes_are ws e))))) refl)
-          (λ q. omega arith)
+    pub same_outputs : outputs ≡ scan_packed ws t outputs
+    same_outputs = sym (numbers_kept ws t outputs refused)
 
-      pub refused_outputs : length outputs < o.count → Answered ws t outputs (verdict 12 0) t outputs
-      refused_outputs s =
-          refused (verdict 12 0)
-          (by_tests ws t (length outputs) true _ false (eq-eqb (checked ws).number 0 fine) refl
-          (lt-leb (block_count (network_in ws)) (length outputs) (subst (λ (n : ℕ). length outputs < n) (count_is ws e) s))
-          ∙ ap (λ (a : Bool). cond a done (verdict 12 0)) (and_off (eqb (length t) (total (network_in ws).sizes))))
-          (λ q. omega arith)
+  -- what is not refused
+  module _ (o : Opened) (e : numbered (Ok o) ≡ said_by (scan_verdict ws (length t) (length outputs)) (opened_value ws)) where
+    not_refused : scan_verdict ws (length t) (length outputs) ≡ done
+    not_refused = done_is o (scan_verdict ws (length t) (length outputs)) (opened_value ws) e
 
-      -- what is not refused
-      module _ (l : length t ≡ total o.sizes) (u : o.count ≤ length outputs) where
-        pub all_ready : AllReady ws o t outputs
-        all_ready = record {
-          opens = e;
-          accepted = fine;
-          exact = l ∙ ap total (sizes_are ws e);
-          room = subst (λ (n : ℕ). n ≤ length outputs) (count_is ws e) u;
-        }
+    zero_number : (scan_verdict ws (length t) (length outputs)).number ≡ 0
+    zero_number = ap (λ (v : Verdict). v.number) not_refused
 
-        taken : scan_verdict ws (length t) (length outputs) ≡ done
-        taken =
-            by_tests ws t (length outputs) true true true (eq-eqb (checked ws).number 0 fine) (eq-eqb (length t) (total (network_in ws).sizes) all_ready.exact)
-            (le-leb (block_count (network_in ws)) (length outputs) all_ready.room)
+    pub all_ready : AllReady ws o t outputs
+    all_ready = record {
+      opens = value_is o (scan_verdict ws (length t) (length outputs)) (opened_value ws) e;
+      accepted = checks ws t (length outputs) zero_number;
+      exact = exact_table ws t (length outputs) zero_number;
+      room = enough ws t (length outputs) zero_number;
+    }
 
-        pub all_done : {table packs : List ℕ} → AllRan (network_in ws) t outputs table packs → Answered ws t outputs done table packs
-        all_done s =
-            let zero_number : (scan_verdict ws (length t) (length outputs)).number ≡ 0 = ap (λ (x : Verdict). x.number) taken in
-            record {
-              answers = sym taken;
-              leaves_one = s.table_after ∙ sym (done_table ws t (length outputs) zero_number);
-              leaves_other = s.outputs_after ∙ sym (done_outputs ws t outputs zero_number);
-            }
+    pub done_said : numbered (Ok (tt {0})) ≡ said_by (scan_verdict ws (length t) (length outputs)) (tt {0})
+    done_said = rw not_refused refl
+
+    module _ {table packs : List ℕ} (s : AllRan (network_in ws) t outputs table packs) where
+      pub table_done : table ≡ scan_table ws t (length outputs)
+      table_done = s.table_after ∙ sym (done_table ws t (length outputs) zero_number)
+
+      pub outputs_done : packs ≡ scan_packed ws t outputs
+      outputs_done = s.outputs_after ∙ sym (done_outputs ws t outputs zero_number)
+
+pub ruleset answering = (refusal_said, same_table, same_outputs, done_said)

@@ -1,5 +1,5 @@
 -- The laws of the walk over the blocks of a scan: after k blocks the table and the list are those of the definitions, and the next
--- block's words, inputs and entry are in place. Assumes nothing.
+-- block's words, inputs and entry are in place.
 use mathlib.Core.Path.{◌≡◌, refl, sym, ap, ap₂, ◌∙◌, subst}
 use mathlib.Core.List.{List, [], ◌∷◌, ◌++◌, map, append_assoc, map-append}
 use Prim.Native.Nat.{ℕ, suc, ◌+◌, ◌≤◌, ◌<◌}

@@ -1,11 +1,9 @@
--- P1 to P14 of document 01 ("Both sides of the edges, in hex words"), one table, and the statement about all of it: a row has the case's
--- label, its network of one block at any level, the table before the scan, and the table and the outputs after it. P14's middle output is
--- that of document 02, ticket 2, and the counts of P5 to P9 are those of ticket 3. Assumes nothing.
+-- The cases P1 to P14, both sides of the edges in hex words, one table, and the statement about all of it: a row has the
+-- case's label, its network of one block at any level, the table before the scan, and the table and the outputs after it.
 use Rattle.std.specs.Prelude.{ℕ, ◌≡◌, Bool, true, false, List, [], ◌∷◌, map, length}
 use Prim.Native.String.{String}
 use Rattle.verdict.specs.Lists.{Table}
-use Rattle.verdict.specs.declared.Verdict.{Verdict}
-use Rattle.verdict.specs.Verdict.{done}
+use Rattle.verdict.specs.Verdict.{Verdict, done}
 use Rattle.record.specs.declared.{Node.Node, Input.Input, Inputs.Inputs, Block.Block}
 use Rattle.network.specs.Network.{Network, words_of}
 use Rattle.blocks.specs.declared.Outputs.{Outputs}

@@ -1,13 +1,16 @@
 -- What the contracts of the crate's own functions cite, beside the definitions that a caller reads: what a block of a checked network and
--- a scan of it may rely on, and what they leave. Assumes nothing.
-use Rattle.std.specs.Prelude.{ℕ, ◌≤◌, ◌<◌, ◌≡◌, List, ◌++◌, map, length, get_or, take, drop, set}
+-- a scan of it may rely on, and what they leave.
+use Rattle.std.specs.Prelude.{ℕ, ◌≤◌, ◌<◌, ◌≡◌, cond, ◌&&◌, eqb, leb, List, ◌++◌, map, length, get_or, take, drop, set, Result, Ok, Err}
 use Rattle.verdict.specs.Lists.{Words, Table}
+use Rattle.verdict.specs.declared.Fault.TheVariants.{Call}
+use Rattle.verdict.specs.declared.Refusal.{Refusal}
+use Rattle.verdict.specs.Verdict.{refusal}
 use Rattle.record.specs.declared.{Block.Block}
 use Rattle.network.specs.declared.{checker.Opened.Opened}
 use Rattle.blocks.specs.declared.{Power.Power, Located.Located}
 use Rattle.table.specs.Table.{total}
 use Rattle.network.specs.Network.{Network, block_of, block_count}
-use Rattle.network.specs.Check.{opened, checked, network_in}
+use Rattle.network.specs.Check.{opened_value, checked, network_in}
 use Rattle.blocks.specs.View.{located}
 use Rattle.blocks.specs.Work.{block_outputs, block_table}
 use Rattle.blocks.specs.Packed.{packed, unpacked}
@@ -42,7 +45,7 @@ pub record Ran (net : Network) (one : Located) (k : ℕ) (t outputs table output
 
 -- an opening of these words, which are accepted
 pub record Legible (ws : Words) (o : Opened) : Type 0 where
-  pub opens : o ≡ opened ws
+  pub opens : o ≡ opened_value ws
   pub accepted : (checked ws).number ≡ 0
 
 -- block k + 1 of a network, with the first words of its nodes
@@ -53,9 +56,13 @@ located_at net k = located net (block_of net k)
 abbrev pub Locates : Network → List Located → Type 0
 Locates net blocks = (k : ℕ) → k < block_count net → (otherwise : Located) → get_or blocks k otherwise ≡ located_at net k
 
+-- the test of an opening by a table of so many words and a list of so many entries
+abbrev pub fit_test : Opened → ℕ → ℕ → Result Unit Refusal
+fit_test o size room = cond (eqb size (total o.sizes) && leb o.count room) (Ok tt) (Err (refusal Call 0))
+
 -- an opening of these words, and a table and a list with which a scan is not refused
 pub record AllReady (ws : Words) (o : Opened) (t : Table) (outputs : List ℕ) : Type 0 where
-  pub opens : o ≡ opened ws
+  pub opens : o ≡ opened_value ws
   pub accepted : (checked ws).number ≡ 0
   pub exact : length t ≡ total (network_in ws).sizes
   pub room : block_count (network_in ws) ≤ length outputs

@@ -1,12 +1,11 @@
--- One scan (document 01, "One scan"): blocks run in order; a block takes its three inputs from the table as earlier blocks left
--- it and from earlier outputs. Assumes nothing.
+-- One scan: blocks run in order; a block takes its three inputs from the table as earlier blocks left it and from earlier
+-- outputs.
 use Rattle.std.specs.Prelude.{ℕ, cond, ◌&&◌, List, [], ◌∷◌, ◌++◌, map, eqb, leb, length, drop}
 use Rattle.verdict.specs.Lists.{Words, Table}
-use Rattle.verdict.specs.declared.Verdict.{Verdict}
 use Rattle.record.specs.declared.Block.{Block}
 use Rattle.table.specs.Table.{total}
 use Rattle.network.specs.Network.{Network, block_count}
-use Rattle.verdict.specs.Verdict.{verdict, done, then}
+use Rattle.verdict.specs.Verdict.{Verdict, verdict, done, then}
 use Rattle.network.specs.Check.{checked, network_in}
 use Rattle.blocks.specs.declared.Outputs.{Outputs}
 use Rattle.blocks.specs.Work.{block_outputs, block_table}

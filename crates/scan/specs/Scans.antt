@@ -1,5 +1,5 @@
--- Several scans, one after the other, each of the table that the one before left; and the pointer that a block shows when it is done
--- (document 01, "The bench program"). Assumes nothing.
+-- Several scans, one after the other, each of the table that the one before left; and the pointer that a block shows when
+-- it is done.
 use Rattle.std.specs.Prelude.{ℕ, zero, suc, List, [], ◌∷◌}
 use Rattle.verdict.specs.Lists.{Table}
 use Rattle.record.specs.declared.Block.{Block}

@@ -1,4 +1,4 @@
--- What is true of a scan (document 01, "One scan"). Assumes nothing.
+-- What is true of a scan.
 use Rattle.std.specs.Prelude.{ℕ, ◌+◌, ◌*◌, ◌≤◌, ◌<◌, ◌≡◌, List, length}
 use Rattle.verdict.specs.Lists.{Words, Table}
 use Rattle.bits.specs.Bit.{bit}

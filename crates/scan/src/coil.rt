@@ -6,12 +6,13 @@ ghost use Rattle.blocks.specs.Work.{coil_put};
 use table::Sizes;
 
 // A coil becomes 1 for power and 0 for none; number 0 names none.
+#[tactic(auto, using(crate::proofs::Coils::no_coil, crate::proofs::Coils::coil_stored))]
 pub(crate) fn put_coil(table: &mut [u16], sizes: Sizes, number: u16, on: bool)
-    requires { (sizes.coils ≤ length table.old) × (number ≤ 16 * sizes.coils) }
+    requires area { sizes.coils ≤ length table.old }
+    requires reference { number ≤ 16 * sizes.coils }
     ensures { table.new ≡ coil_put (areas_only sizes) number on table.old }
 {
-    if number != 0 {
-        let i = number - 1;
+    if let Some(i) = number.checked_sub(1) {
         let at = (i / 16) as usize;
         table[at] = bits::put_bit(table[at], i % 16 + 1, on);
     }

@@ -66,3 +66,5 @@ module _ {x y : List ℕ} where
     up = omega arith;
     words = λ j l u. let here : k ≡ j = omega arith in subst (λ (w : ℕ). get_or x w 0 ≡ get_or y w 0) here f;
   })
+
+pub ruleset passing = (no_words, joined, one_more)

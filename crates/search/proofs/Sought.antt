@@ -6,18 +6,17 @@ use mathlib.Core.List.{List}
 use mathlib.Core.Logic.{◌↔◌, ⊎_elim}
 use mathlib.Core.Option.{Option, none, some}
 use Prim.Native.Nat.{ℕ, zero, suc, ◌+◌, ◌-◌, ◌*◌, ◌≤◌, ◌<◌}
-use native.Mathlib.Decide.{ℕ_discrete, dec_le}
+use native.Mathlib.Decide.{dec_le}
 use native.Mathlib.Nat.{eq-or-lt_of_le, le_antisymm, lt_of_not-le}
 use native.Mathlib.Omega.{arith}
 use lib.ListN.{length}
-use Rattle.verdict.specs.declared.Verdict.{Verdict}
-use Rattle.search.specs.declared.Difference.TheVariants.{At, Nothing, Refused}
+use Rattle.std.specs.Prelude.{Ok, Some, None}
+use Rattle.verdict.specs.Verdict.{Said, done, placeless, said_by}
+use Rattle.verdict.proofs.Said.{value_is}
 use Rattle.runs.specs.Run.{run, fault}
 use Rattle.bits.specs.Bit.{longest_whole}
-use Rattle.search.specs.Search.{differing, first, first_differing, NoneLater, FirstLater, NothingMeansNone, AtMeansFirst}
-use Rattle.search.specs.Inner.{reported}
-use Rattle.search.proofs.Answers.{first_difference, told}
-use Rattle.runs.proofs.Refusals.{unless_done, unless_refused}
+use Rattle.search.specs.Search.{differing, first, first_differing, difference_said, first_said, NoneLater, FirstLater, NothingMeansNone, AtMeansFirst}
+use Rattle.search.proofs.Answers.{said_same}
 
 -- ---- the first of the k positions after i at which f is on
 data Met (f : ℕ → Bool) (i k : ℕ) : Option ℕ → Type 0 where
@@ -45,19 +44,19 @@ module _ (a b : List ℕ) (n above : ℕ) where
   Outcome : Option ℕ → Type 0
   Outcome = Met (differing a b) above (16 * n - above)
 
-  none_later : (r : Option ℕ) → Outcome r → reported r ≡ Nothing → NoneLater a b n above
+  none_later : (r : Option ℕ) → Outcome r → r ≡ none → NoneLater a b n above
   unfolding Outcome
   none_later r (none_met off) e = λ p l u. off p l (omega arith)
-  none_later r (some_met p l u on off) e = let z : ◌≡◌ {A = ℕ} 0 1 = cc in absurd (omega arith)
+  none_later r (some_met p l u on off) e = cc
 
-  nothing : (r : Option ℕ) → Outcome r → NoneLater a b n above → reported r ≡ Nothing
+  nothing : (r : Option ℕ) → Outcome r → NoneLater a b n above → r ≡ none
   unfolding Outcome
   nothing r (none_met off) h = refl
   nothing r (some_met p l u on off) h = absurd (false≢true (sym (h p l (omega arith)) ∙ on))
 
-  first_later : (p : ℕ) (r : Option ℕ) → Outcome r → reported r ≡ At p → FirstLater a b n above p
+  first_later : (p : ℕ) (r : Option ℕ) → Outcome r → r ≡ some p → FirstLater a b n above p
   unfolding Outcome
-  first_later p r (none_met off) e = let z : ◌≡◌ {A = ℕ} 0 1 = cc in absurd (omega arith)
+  first_later p r (none_met off) e = cc
   first_later p r (some_met q l u on off) e =
       let same : q ≡ p = cc in
       subst (FirstLater a b n above) same (record { later = l; inside = omega arith; differs = on; earlier_agree = off })
@@ -70,11 +69,11 @@ module _ (a b : List ℕ) (n above : ℕ) where
         | no l ↦ absurd (before (lt_of_not-le l))
       ]
 
-  position : (p : ℕ) (r : Option ℕ) → Outcome r → FirstLater a b n above p → reported r ≡ At p
+  position : (p : ℕ) (r : Option ℕ) → Outcome r → FirstLater a b n above p → r ≡ some p
   unfolding Outcome
   position p r (none_met off) h = absurd (false≢true (sym (off p h.later (omega (arith, h.inside))) ∙ h.differs))
   position p r (some_met q l u on off) h =
-      ap At (neither p q
+      ap some (neither p q
       (λ m. false≢true (sym (off p h.later m) ∙ h.differs))
       (λ m. false≢true (sym (h.earlier_agree q l m) ∙ on)))
 
@@ -84,46 +83,33 @@ module _ (a b : List ℕ) (n above : ℕ) where
 
 -- nothing is found exactly when no later position differs
 pub none_sought : (a b : List ℕ) (n above : ℕ) → (first_differing a b n above ≡ none) ↔ NoneLater a b n above
-none_sought a b n above = (
-  (λ e. none_later a b n above _ (outcome a b n above) (ap reported e)),
-  (λ h. unreported _ (nothing a b n above _ (outcome a b n above) h)),
+none_sought a b n above = (none_later a b n above _ (outcome a b n above), nothing a b n above _ (outcome a b n above))
+
+-- a position is found exactly when it is the first
+first_sought : (a b : List ℕ) (n above p : ℕ) → (first_differing a b n above ≡ some p) ↔ FirstLater a b n above p
+first_sought a b n above p = (first_later a b n above p _ (outcome a b n above), position a b n above p _ (outcome a b n above))
+
+-- ---- the call: what it answers where it is not refused
+pub told : (t : List ℕ) (a b n above : ℕ) (o : Option ℕ) → ◌≡◌ {A = Said (Option ℕ)} (record { verdict = done; value = Some o }) (first_said t a b n above)
+    → (fault longest_whole (length t) n a b ≡ 0) × (first_differing (run t a n) (run t b n) n above ≡ o)
+told t a b n above o e = (
+  ap (λ (s : Said (Option ℕ)). s.verdict.number) (sym e),
+  sym (value_is o (placeless (fault longest_whole (length t) n a b)) (first_differing (run t a n) (run t b n) n above) e),
 )
-  where
-    unreported : (r : Option ℕ) → reported r ≡ Nothing → r ≡ none
-    unreported none e = refl
-    unreported (some p) e = let z : ◌≡◌ {A = ℕ} 0 1 = cc in absurd (omega arith)
 
--- ---- the call
-module _ (t : List ℕ) (a b n above : ℕ) where
-  answered : fault longest_whole (length t) n a b ≡ 0 → first_difference t a b n above ≡ reported (first_differing (run t a n) (run t b n) n above)
-  unfolding first_difference
-  answered e = unless_done _ _ _ e
-
-  -- an answer that is no refusal was not refused
-  not_refused : ((v : Verdict) → first_difference t a b n above ≡ Refused v → ⊥) → fault longest_whole (length t) n a b ≡ 0
-  unfolding first_difference
-  not_refused h = elim (ℕ_discrete (fault longest_whole (length t) n a b) 0) [ yes e ↦ e | no d ↦ absurd (h _ (unless_refused _ _ _ d)) ]
+telling : (t : List ℕ) (a b n above : ℕ) (o : Option ℕ) → fault longest_whole (length t) n a b ≡ 0 → first_differing (run t a n) (run t b n) n above ≡ o
+    → first_said t a b n above ≡ record { verdict = done; value = Some o }
+telling t a b n above o accepts found =
+    ap (λ (k : ℕ). said_by (placeless k) (first_differing (run t a n) (run t b n) n above)) accepts ∙ ap (said_by done) found
 
 pub nothing_means_none : NothingMeansNone
 nothing_means_none t a b n above r said = (
-  (λ e.
-      let answer : first_difference t a b n above ≡ Nothing = sym (told t a b n above r said) ∙ e in
-      let ok = not_refused t a b n above (λ v q. let z : ◌≡◌ {A = ℕ} 0 1 = cc in omega arith) in
-      (ok, none_later (run t a n) (run t b n) n above _ (outcome (run t a n) (run t b n) n above) (sym (answered t a b n above ok) ∙ answer))),
-  (λ h.
-      told t a b n above r said
-      ∙ answered t a b n above h.0
-      ∙ nothing (run t a n) (run t b n) n above _ (outcome (run t a n) (run t b n) n above) h.1),
+  λ e. let all = told t a b n above none (ap difference_said (sym e) ∙ said) in (all.0, (none_sought (run t a n) (run t b n) n above).0 all.1),
+  λ h. said_same r (Ok None) (said ∙ telling t a b n above none h.0 ((none_sought (run t a n) (run t b n) n above).1 h.1)),
 )
 
 pub at_means_first : AtMeansFirst
 at_means_first t a b n above p r said = (
-  (λ e.
-      let answer : first_difference t a b n above ≡ At p = sym (told t a b n above r said) ∙ e in
-      let ok = not_refused t a b n above (λ v q. let z : ◌≡◌ {A = ℕ} 0 1 = cc in omega arith) in
-      (ok, first_later (run t a n) (run t b n) n above p _ (outcome (run t a n) (run t b n) n above) (sym (answered t a b n above ok) ∙ answer))),
-  (λ h.
-      told t a b n above r said
-      ∙ answered t a b n above h.0
-      ∙ position (run t a n) (run t b n) n above p _ (outcome (run t a n) (run t b n) n above) h.1),
+  λ e. let all = told t a b n above (some p) (ap difference_said (sym e) ∙ said) in (all.0, (first_sought (run t a n) (run t b n) n above p).0 all.1),
+  λ h. said_same r (Ok (Some p)) (said ∙ telling t a b n above (some p) h.0 ((first_sought (run t a n) (run t b n) n above p).1 h.1)),
 )

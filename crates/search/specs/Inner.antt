@@ -1,14 +1,7 @@
 -- What the contracts of the crate's own functions cite, beside the definitions that a caller reads. Assumes nothing.
 use Rattle.std.specs.Prelude.{ℕ, ◌≤◌, ◌<◌, ◌≡◌, length, get_or}
-use Rattle.std.proofs.Math.Option.{Option, none, some}
 use Rattle.verdict.specs.Lists.{Matrix}
 use Rattle.bits.specs.Bit.{longest_whole}
-use Rattle.search.specs.declared.{Difference.Difference, Difference.TheVariants.At, Difference.TheVariants.Nothing}
-
--- a position found, or none, as an answer
-abbrev pub reported : Option ℕ → Difference
-reported none = Nothing
-reported (some p) = At p
 
 -- two lists hold n words each, and n is at most the longest
 pub record Paired (x y : Matrix) (n : ℕ) : Type 0 where

@@ -1,13 +1,14 @@
--- The first differing position above a start, of two matrices (document 01, "One scan", CMPR). Assumes nothing.
-use Rattle.std.specs.Prelude.{ℕ, zero, suc, ◌-◌, ◌*◌, ◌≤◌, ◌<◌, ◌≡◌, ◌↔◌, Bool, true, false, cond, length}
+-- The first differing position above a start, of two matrices (CMPR). Assumes nothing.
+use Rattle.std.specs.Prelude.{ℕ, zero, suc, ◌-◌, ◌*◌, ◌≤◌, ◌<◌, ◌≡◌, ◌↔◌, Bool, true, false, cond, length, Result, Ok, Err, Some, None}
+use Rattle.std.specs.Prelude.{Option as Answered}
 use Rattle.std.specs.Bool.{xor}
 use Rattle.std.proofs.Math.Option.{Option, none, some}
 use Rattle.verdict.specs.Lists.{Table, Matrix}
 use Rattle.bits.specs.Bit.{bit, longest_whole}
-use Rattle.search.specs.declared.{Difference.Difference, Difference.TheVariants.At, Difference.TheVariants.Nothing, Difference.TheVariants.Refused}
+use Rattle.verdict.specs.declared.Refusal.{Refusal}
 use Rattle.runs.specs.Run.{run, fault}
-use Rattle.verdict.specs.Verdict.{done, placeless}
-use Rattle.verdict.specs.Said.{Said, said_by}
+use Rattle.verdict.specs.Verdict.{number_of, verdict, done, placeless}
+use Rattle.verdict.specs.Verdict.{Said, said_by}
 
 -- two matrices differ at a position
 abbrev pub differing : Matrix → Matrix → ℕ → Bool
@@ -24,11 +25,15 @@ first_differing a b n above = first (differing a b) above (16 * n - above)
 
 -- ---- for the calls
 
--- what the search's answer says: done and a position or none, or a refusal (document 01, "Numbers returned")
-abbrev pub difference_said : Difference → Said (Option ℕ)
-difference_said (At p) = record { verdict = done; value = some (some p) }
-difference_said Nothing = record { verdict = done; value = some none }
-difference_said (Refused v) = record { verdict = v; value = none }
+-- a position, or none, that the search answers
+abbrev pub shown : Answered ℕ → Option ℕ
+shown None = none
+shown (Some p) = some p
+
+-- what the search's answer says: done and a position or none, or a refusal
+abbrev pub difference_said : Result (Answered ℕ) Refusal → Said (Option ℕ)
+difference_said (Ok found) = record { verdict = done; value = Some (shown found) }
+difference_said (Err r) = record { verdict = verdict (number_of r.fault) r.place; value = None }
 
 -- the matrices are the n words from a on and the n words from b on, in a table of so many words
 abbrev pub search_fault : ℕ → ℕ → ℕ → ℕ → ℕ
@@ -53,11 +58,11 @@ pub record FirstLater (a b : Matrix) (n above p : ℕ) : Type 0 where
 -- the call answers nothing exactly when it is not refused and no later position differs
 abbrev pub NothingMeansNone : Type 0
 NothingMeansNone =
-    (t : Table) (a b n above : ℕ) (r : Difference) → difference_said r ≡ first_said t a b n above →
-    (r ≡ Nothing) ↔ ((search_fault (length t) a b n ≡ 0) × NoneLater (run t a n) (run t b n) n above)
+    (t : Table) (a b n above : ℕ) (r : Result (Answered ℕ) Refusal) → difference_said r ≡ first_said t a b n above →
+    (r ≡ Ok None) ↔ ((search_fault (length t) a b n ≡ 0) × NoneLater (run t a n) (run t b n) n above)
 
 -- and a position exactly when that is the first later one that differs
 abbrev pub AtMeansFirst : Type 0
 AtMeansFirst =
-    (t : Table) (a b n above p : ℕ) (r : Difference) → difference_said r ≡ first_said t a b n above →
-    (r ≡ At p) ↔ ((search_fault (length t) a b n ≡ 0) × FirstLater (run t a n) (run t b n) n above p)
+    (t : Table) (a b n above p : ℕ) (r : Result (Answered ℕ) Refusal) → difference_said r ≡ first_said t a b n above →
+    (r ≡ Ok (Some p)) ↔ ((search_fault (length t) a b n ≡ 0) × FirstLater (run t a n) (run t b n) n above p)

@@ -5,3 +5,4 @@ pub mod Records
 pub mod Sections
 pub mod Walk
 pub mod Words
+pub mod Reaching

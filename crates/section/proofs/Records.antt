@@ -8,9 +8,8 @@ use native.Mathlib.Numerals.{add-one}
 use native.Mathlib.Omega.{arith}
 use lib.ListN.{length, get_or, drop, length-append}
 use lib.Seq.{drop-drop}
-use Rattle.verdict.specs.declared.Verdict.{Verdict}
 use Rattle.section.specs.Walk.{seek}
-use Rattle.verdict.specs.Verdict.{done, then}
+use Rattle.verdict.specs.Verdict.{Verdict, done, then}
 use Rattle.section.specs.Section.{records_earn, records_in}
 use Rattle.section.specs.Truths.{Clean}
 use Rattle.section.proofs.Walk.{seek_none, turn_refused, seek_append, then_next}

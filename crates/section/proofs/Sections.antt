@@ -11,9 +11,8 @@ use borrow.Author.Tests.{lt-ltb, le-ltb}
 use lib.Dec.{ltb}
 use lib.ListN.{length, drop, length-append}
 use lib.Seq.{drop-drop}
-use Rattle.verdict.specs.declared.Verdict.{Verdict}
 use Rattle.section.specs.Walk.{first_of, seek, left_over}
-use Rattle.verdict.specs.Verdict.{verdict, done, then}
+use Rattle.verdict.specs.Verdict.{Verdict, verdict, done, then}
 use Rattle.section.specs.Section.{Section, section_earns, section_spells, section_rest, earned, meaning, end, judged_from, front, whole}
 use Rattle.section.specs.Truths.{Clean, Good, AcceptsSections, FirstDecides, CountsThrough, LiftedAsAlone}
 use Rattle.section.proofs.Walk.{then_first, then_next, then_zero, then_assoc, le_of_not_lt, seek_append, done_clean, clean_done}

@@ -1,11 +1,10 @@
--- Sections in a fixed order, each after its count (document 01, "A network in words" and "The bench program"). A section says what
+-- Sections in a fixed order, each after its count. A section says what
 -- each of its words earns, given what the sections before it spelled, and what it spells itself; there are as many words as
 -- there are entries in what they earn. Assumes nothing.
 use Rattle.std.specs.Prelude.{ℕ, zero, suc, Bool, cond, List, [], ◌∷◌, ◌++◌, ◌≡◌, length, drop}
 use Rattle.verdict.specs.Lists.{Words}
-use Rattle.verdict.specs.declared.Verdict.{Verdict}
 use Rattle.section.specs.Walk.{first_of, seek, left_over}
-use Rattle.verdict.specs.Verdict.{then}
+use Rattle.verdict.specs.Verdict.{Verdict, then}
 
 -- a section, where what is spelled is an A; its rules take the count and the words after it
 pub record Section (A : Type 0) : Type 0 where

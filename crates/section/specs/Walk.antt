@@ -1,8 +1,10 @@
--- Words are checked from the first on, each when it is reached (document 01, "Numbers returned"). Assumes nothing.
-use Rattle.std.specs.Prelude.{ℕ, suc, Bool, cond, ◌||◌, List, [], ◌∷◌, ltb, eqb, get_or}
+-- Words are checked from the first on, each when it is reached. Assumes nothing.
+use Rattle.std.specs.Prelude.{ℕ, suc, ◌+◌, Bool, cond, ◌||◌, List, [], ◌∷◌, ltb, eqb, get_or, Result, Ok, Err}
 use Rattle.verdict.specs.Lists.{Words}
-use Rattle.verdict.specs.declared.Verdict.{Verdict}
-use Rattle.verdict.specs.Verdict.{verdict, done}
+use Rattle.verdict.specs.declared.Fault.{Fault}
+use Rattle.verdict.specs.declared.Fault.TheVariants.{Missing}
+use Rattle.verdict.specs.declared.Refusal.{Refusal}
+use Rattle.verdict.specs.Verdict.{Verdict, verdict, done, refusal}
 
 -- the word at an index, counted from 0; a missing word reads as 0
 abbrev pub word : Words → ℕ → ℕ
@@ -17,6 +19,14 @@ first_of ws = word ws 0
 unfoldable pub seek : List ℕ → ℕ → ℕ → Verdict
 seek [] size i = done
 seek (f ∷ fs) size i = cond (ltb i size) (cond (eqb f 0) (seek fs size (suc i)) (verdict f (suc i))) (verdict 1 (suc i))
+
+-- a test of the code, where the word at an index is reached among so many
+abbrev pub at_word : {A : Type 0} → Result A Fault → ℕ → Result A Refusal
+at_word (Ok x) place = Ok x
+at_word (Err fault) place = Err (refusal fault place)
+
+abbrev pub reached : {A : Type 0} → Result A Fault → ℕ → ℕ → Result A Refusal
+reached test size i = cond (ltb i size) (at_word test (i + 1)) (Err (refusal Missing (i + 1)))
 
 -- 11: words left over after the first `end` of so many, or an odd byte
 abbrev pub left_over : ℕ → ℕ → Bool → Verdict

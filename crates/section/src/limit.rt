@@ -1,26 +1,21 @@
 // The two tests of a number by a limit: what it earns.
 ghost use Rattle.std.specs.Prelude.{◌≡◌};
-ghost use Rattle.section.specs.Limit.{counted, up_to};
+ghost use Rattle.section.specs.Limit.{counted_test, up_to_test};
 
-// Nothing for a number from 1 to most, else the refusal.
-pub fn counted(most: usize, n: usize, refusal: u16) -> u16
-    ensures { result ≡ counted most n refusal }
+/// Nothing for a number from 1 to most, else the refusal, whatever stands for one.
+pub fn counted<E: Copy>(most: usize, n: usize, refusal: E) -> Result<(), E>
+    ensures { result ≡ counted_test most n refusal }
 {
-    if n < 1 {
-        return refusal;
+    if (1..=most).contains(&n) {
+        Ok(())
+    } else {
+        Err(refusal)
     }
-    if n <= most {
-        return 0;
-    }
-    refusal
 }
 
-// Nothing for a number up to most, else the refusal.
-pub fn up_to(most: usize, n: usize, refusal: u16) -> u16
-    ensures { result ≡ up_to most n refusal }
+/// Nothing for a number up to most, else the refusal, whatever stands for one.
+pub fn up_to<E: Copy>(most: usize, n: usize, refusal: E) -> Result<(), E>
+    ensures { result ≡ up_to_test most n refusal }
 {
-    if most < n {
-        return refusal;
-    }
-    0
+    if n <= most { Ok(()) } else { Err(refusal) }
 }

@@ -3,3 +3,4 @@ pub mod Determined
 pub mod Good
 pub mod Parts
 pub mod References
+pub mod Areas

@@ -122,7 +122,7 @@ pub part_empty : (t : List ℕ) (z : Sizes) (class number n : ℕ) → shown (le
 unfolding part
 part_empty t z class number n e = ap (λ (b : Bool). cond b (take n (drop (start_of z class number) t)) []) e
 
--- ---- a part is empty exactly for one of document 01's reasons
+-- ---- a part is empty exactly for one of these reasons
 module _ (t : List ℕ) (z : Sizes) (class number n : ℕ) where
   -- a part that is shown has a word
   not_empty : shown (length t) z class number n ≡ true → part t z class number n ≡ [] → ⊥

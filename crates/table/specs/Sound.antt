@@ -21,7 +21,7 @@ pub record Placed (z : Sizes) (class number words : ℕ) : Type 0 where
   pub aligned : discrete class ≡ true → number % 16 ≡ 1
   pub inside : offset class number + words ≤ size_of z class
 
--- why a part is empty, in document 01's order: the class isn't 0, 1, 3 or 4, the request fails refusal 6, 7 or 8, the length is out
+-- why a part is empty, in this order: the class isn't 0, 1, 3 or 4, the request fails refusal 6, 7 or 8, the length is out
 -- of the level's range, an area size is over its limit or the level another than 1 or 2, or the table has the wrong size
 pub data Empty (t : Table) (z : Sizes) (class number n : ℕ) : Type 0 where
   other_class : (class ≡ 0 → ⊥) → (class ≡ 1 → ⊥) → (class ≡ 3 → ⊥) → (class ≡ 4 → ⊥) → Empty t z class number n

@@ -1,4 +1,4 @@
--- The table (document 01, "The table"): four areas of words one after the other, coils (class 0), discrete inputs (1), input
+-- The table: four areas of words one after the other, coils (class 0), discrete inputs (1), input
 -- registers (3) and holding registers (4). References count from 1 in each area; discretes are packed 16 to a word.
 -- Assumes nothing.
 use Rattle.std.specs.Prelude.{ℕ, ◌+◌, ◌-◌, ◌/◌, ◌%◌, Bool, not, cond, ◌&&◌, ◌||◌, [], leb, eqb, length, take, drop}

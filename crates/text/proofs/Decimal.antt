@@ -1,4 +1,4 @@
--- The digits of a number are the kit's: the digits one by one, their count by the five cases of `places`. Assumes nothing.
+-- The digits of a number are the kit's: the digits one by one, their count by the five cases of `places`.
 use mathlib.Core.Path.{◌≡◌, refl, sym, ap, ap₂, subst}
 use mathlib.Core.List.{List, [], ◌∷◌, ◌++◌}
 use mathlib.Core.Bool.{Bool, cond}

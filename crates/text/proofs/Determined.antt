@@ -1,4 +1,4 @@
--- Two results that a public function's contract allows are equal: each contract is one equation for the answer. Assumes nothing.
+-- Two results that a public function's contract allows are equal: each contract is one equation for the answer.
 use mathlib.Core.Path.{sym, ◌∙◌}
 use Rattle.verdict.specs.Promise.{Decides}
 use Rattle.text.proofs.line_fits.Reads as line_fits_reads

@@ -1,24 +1,21 @@
--- The laws of labels: low bytes of a number, a number from its bytes, the label of a number and a space, the word of the three
--- outputs, and a line put from labels, its end by pieces. Assumes nothing.
+-- The laws of labels: low bytes of a number, a number from its bytes, the label of a number and a space, and a line put from
+-- labels, its end by pieces.
 use mathlib.Core.Path.{◌≡◌, refl, sym, ap, ap₂, ◌∙◌, subst}
-use mathlib.Core.Bool.{Bool, true, false}
 use mathlib.Core.List.{List, [], ◌∷◌, ◌++◌, append_assoc}
 use Prim.Native.Nat.{ℕ, zero, suc, ◌+◌, ◌-◌, ◌*◌, ◌/◌, ◌%◌, ◌^◌, ◌≤◌, ◌<◌}
 use native.Mathlib.Nat.{mul_assoc, pow-suc, pow-succ', pow-le-pow_right, div-one, div-div-eq-div-mul}
 use native.Mathlib.Numerals.{add-one}
 use native.Mathlib.Omega.{arith}
-use mir.Val.{bool_byte}
-use lib.Bits.{bit_and, bit_or}
 use lib.ListN.{length, take, drop, length-append, take-append-drop}
 use lib.Seq.{take_at}
 use Rattle.blocks.specs.declared.Outputs.{Outputs}
-use Rattle.text.specs.Text.{places, digits, decimal, field, digit, output_fields, line_end, line, longest_line, low, label_text, value_of, label_of, labelled_line}
+use Rattle.text.specs.Text.{places, digits, decimal, field, output_fields, line_end, line, low, label_text, value_of, label_of, labelled_line}
 use Rattle.text.specs.Inner.{Put, Over}
-use Rattle.text.proofs.Putting.{put_over, put_then, put_as, put_few, covered}
+use Rattle.text.proofs.Putting.{put_then, put_as, put_few, covered}
 use Rattle.text.proofs.Laying.{digits_length, places_few, end_few}
 
 -- ---- low bytes
-low_length : (k x : ℕ) → length (low k x) ≡ k
+pub low_length : (k x : ℕ) → length (low k x) ≡ k
 unfolding low
 low_length zero x = refl
 low_length (suc k) x = ap suc (low_length k (x / 256))
@@ -55,24 +52,6 @@ low_below (suc k) (suc j) more x l =
     let last : (x + more * 256 ^ suc j) % 256 ≡ x % 256 = omega (arith, worth) in
     let others : (x + more * 256 ^ suc j) / 256 ≡ x / 256 + p = omega (arith, worth) in
     ap₂ (λ (b m : ℕ). b ∷ low k m) last others ∙ ap (λ (rest : List ℕ). x % 256 ∷ rest) (low_below k j more (x / 256) (omega arith))
-
--- one more after the first k
-low_suc : (k x : ℕ) → low k x ++ x / 256 ^ k % 256 ∷ [] ≡ low (suc k) x
-unfolding low
-low_suc zero x = ap (λ (m : ℕ). m % 256 ∷ []) (div-one x)
-low_suc (suc k) x =
-    ap (λ (m : ℕ). x % 256 ∷ (low k (x / 256) ++ m % 256 ∷ [])) (ap (λ (w : ℕ). x / w) (pow-succ' 256 k) ∙ sym (div-div-eq-div-mul x 256 (256 ^ k)))
-    ∙ ap (λ (t : List ℕ). x % 256 ∷ t) (low_suc k (x / 256))
-
-pub low_more : (k x : ℕ) {rest : ℕ} → rest ≡ x / 256 ^ k → low k x ++ rest % 256 ∷ [] ≡ low (k + 1) x
-low_more k x e = ap (λ (m : ℕ). low k x ++ m % 256 ∷ []) e ∙ low_suc k x ∙ ap (λ (j : ℕ). low j x) (sym (add-one k))
-
--- and what is left above it
-pub low_left : (k x : ℕ) {rest : ℕ} → rest ≡ x / 256 ^ k → rest / 256 ≡ x / 256 ^ (k + 1)
-low_left k x e =
-    ap (λ (m : ℕ). m / 256) e
-    ∙ div-div-eq-div-mul x (256 ^ k) 256
-    ∙ ap (λ (w : ℕ). x / w) (sym (pow-suc 256 k) ∙ ap (λ (j : ℕ). 256 ^ j) (sym (add-one k)))
 
 -- ---- a number from its bytes
 data Bytes : List ℕ → Type 0 where
@@ -124,12 +103,14 @@ module _ (n : ℕ) {word : ℕ} (e : word ≡ label_of n) where
       ∙ low_below (length (field n)) 7 (length (field n)) (value_of (field n)) (omega (arith, field_length n, places_few n))
       ∙ low_value field_bytes
 
-  -- without the space
-  pub label_digits : low (word / 2 ^ 56 % 8 - 1) word ≡ decimal n
+  -- the number's digits, which are its bytes without the space
+  pub label_digits : {bytes : List ℕ} → bytes ≡ low 8 word → take (word / 2 ^ 56 % 8 - 1) bytes ≡ decimal n
   unfolding decimal
-  label_digits =
+  label_digits b =
       let width : ℕ = word / 2 ^ 56 % 8 in
-      sym (low_take (width - 1) width word (omega arith))
+      ap (take (width - 1)) b
+      ∙ low_take (width - 1) 8 word (omega arith)
+      ∙ sym (low_take (width - 1) width word (omega arith))
       ∙ ap (take (width - 1)) label_field
       ∙ take_at (decimal n) (32 ∷ []) (width - 1) (omega (arith, digits_length (places n) n, label_width))
 
@@ -143,50 +124,39 @@ unfolding labelled_line line
 labelled x y s k out mark p q = ap₂ (λ (a b : List ℕ). a ++ b ++ output_fields out ++ line_end mark out.count) p q
 
 -- ---- the label made byte by byte, from the space to the highest digit
-abbrev spelled : ℕ → ℕ → ℕ
-spelled k n = value_of (digits k n ++ 32 ∷ [])
 
 -- a digit more stands before the others
-digits_first : (k n : ℕ) → digits (suc k) n ≡ (48 + n / 10 ^ k % 10) ∷ digits k n
+pub digits_first : (k n : ℕ) → digits (suc k) n ≡ (48 + n / 10 ^ k % 10) ∷ digits k n
 unfolding digits
 digits_first zero n = ap (λ (m : ℕ). (48 + m % 10) ∷ []) (sym (div-one n))
 digits_first (suc k) n =
     ap (λ (x : List ℕ). x ++ (48 + n % 10) ∷ []) (digits_first k (n / 10))
     ∙ ap (λ (m : ℕ). (48 + m % 10) ∷ digits (suc k) n) (div-div-eq-div-mul n 10 (10 ^ k) ∙ ap (λ (w : ℕ). n / w) (sym (pow-succ' 10 k)))
 
-module _ (n : ℕ) where
-  pub first_is : {x : ℕ} → x ≡ 48 + n % 10 + 256 * 32 → x ≡ spelled 1 n
-  unfolding digits value_of
-  first_is e = e
+-- none yet, and one more before those that are there
+pub spelled_none : (n : ℕ) → value_of (digits 0 n ++ 32 ∷ []) ≡ 32
+unfolding digits value_of
+spelled_none n = refl
 
-  pub next_is : (k : ℕ) {rest x : ℕ} → rest ≡ spelled k n → x ≡ 48 + n / 10 ^ k % 10 + 256 * rest → x ≡ spelled (suc k) n
-  unfolding value_of
-  next_is k p e =
-      e ∙ ap (λ (v : ℕ). 48 + n / 10 ^ k % 10 + 256 * v) p ∙ sym (ap (λ (t : List ℕ). value_of (t ++ 32 ∷ [])) (digits_first k n))
+pub spelled_more : (k n : ℕ) → value_of (digits (k + 1) n ++ 32 ∷ []) ≡ 48 + n / 10 ^ k % 10 + 256 * value_of (digits k n ++ 32 ∷ [])
+unfolding value_of
+spelled_more k n =
+    ap (λ (j : ℕ). value_of (digits j n ++ 32 ∷ [])) (add-one k) ∙ ap (λ (t : List ℕ). value_of (t ++ 32 ∷ [])) (digits_first k n)
 
-  -- with as many digits as the number takes, and how many bytes that makes
-  pub label_is : {k x : ℕ} → places n ≡ k → x ≡ spelled k n → x + (k + 1) * 2 ^ 56 ≡ label_of n
-  unfolding label_of decimal
-  label_is e p = ap₂ (λ (v w : ℕ). v + w * 2 ^ 56) (p ∙ ap (λ (j : ℕ). spelled j n) (sym e)) (ap (λ (j : ℕ). j + 1) (sym e) ∙ sym (field_length n))
+pub power_more : (k n : ℕ) → n / 10 ^ (k + 1) ≡ n / 10 ^ k / 10
+power_more k n = ap (λ (w : ℕ). n / w) (ap (λ (j : ℕ). 10 ^ j) (add-one k) ∙ pow-suc 10 k) ∙ sym (div-div-eq-div-mul n (10 ^ k) 10)
 
--- the longest fits a machine word
-pub label_fits : (m four five : ℕ) → four < 2 ^ 48 → five ≡ 48 + m % 10 + 256 * four → five + 6 * 2 ^ 56 < 2 ^ 64
-label_fits m four five l e = omega arith
+-- up to five digits and a space take six bytes
+pub spelled_few : (k n : ℕ) → k ≤ 5 → value_of (digits k n ++ 32 ∷ []) < 281474976710656
+spelled_few k n l =
+    value_few 6 (omega (arith, length-append (digits k n) (32 ∷ []), digits_length k n)) (both (digits_bytes k n) (more (omega arith) none))
 
--- ---- the word of the three outputs
-outputs_word_of : (a b c : Bool) → low 8 (bit_or (bit_and ((bool_byte a + 2 * bool_byte b + 4 * bool_byte c) * 1073774593) 4295032833) 35391070543920) ≡ digit a ∷ 32 ∷ digit b ∷ 32 ∷ digit c ∷ 32 ∷ 0 ∷ 0 ∷ []
-unfolding low
-outputs_word_of true true true = refl
-outputs_word_of true true false = refl
-outputs_word_of true false true = refl
-outputs_word_of true false false = refl
-outputs_word_of false true true = refl
-outputs_word_of false true false = refl
-outputs_word_of false false true = refl
-outputs_word_of false false false = refl
+-- with as many digits as the number takes, and how many bytes that makes
+pub label_made : (k n : ℕ) → places n ≡ k → label_of n ≡ value_of (digits k n ++ 32 ∷ []) + (k + 1) * 72057594037927936
+unfolding label_of decimal
+label_made k n e = ap (λ (j : ℕ). value_of (field n) + j * 2 ^ 56) (field_length n) ∙ ap (λ (j : ℕ). value_of (digits j n ++ 32 ∷ []) + (j + 1) * 2 ^ 56) e
 
-pub outputs_word : (out : Outputs) → low 8 (bit_or (bit_and ((bool_byte out.top + 2 * bool_byte out.middle + 4 * bool_byte out.bottom) * 1073774593) 4295032833) 35391070543920) ≡ output_fields out ++ 0 ∷ 0 ∷ []
-outputs_word out = outputs_word_of out.top out.middle out.bottom
+pub ruleset label_laws = (spelled_none, spelled_more, power_more, spelled_few, label_made, places_few)
 
 -- ---- a piece that is put with spare bytes
 
@@ -215,21 +185,6 @@ front_put scan block out {at} {one} {two} {before} {first} {second} {last} s b p
     (omega (arith, length-append (label_text scan) (label_text block ++ eight), length-append (label_text block) eight, label_few scan, label_few block))
     (covered s (omega (arith, length-append (label_text block) eight)) (covered b (omega arith) p))))
 
--- and then the end of the line, over the two spare bytes
-pub labelled_put : (scan block : ℕ) (out : Outputs) (mark : List ℕ) {most at next end : ℕ} {before front last : List ℕ}
-    → Put 22 before at (label_text scan ++ label_text block ++ output_fields out ++ 0 ∷ 0 ∷ []) (next + 2) front → length mark ≤ 5
-    → Put most front next (line_end mark out.count) end last → Put longest_line before at (labelled_line scan block out mark) end last
-unfolding labelled_line
-labelled_put scan block out mark {most} {at} {next} p few q =
-    let front : List ℕ = label_text scan ++ label_text block ++ output_fields out in
-    let tail : List ℕ = line_end mark out.count in
-    let labels : List ℕ = label_text scan ++ label_text block in
-    let long : length front ≤ 20 =
-    omega (arith, length-append labels (output_fields out), length-append (label_text scan) (label_text block), label_few scan, label_few block) in
-    let ended : 2 ≤ length tail = omega (arith, length-append (mark ++ 32 ∷ decimal out.count) (10 ∷ []), length-append mark (32 ∷ decimal out.count)) in
-    put_few (omega (arith, length-append front tail, long, end_few mark out.count few))
-    (put_over front (0 ∷ 0 ∷ []) p (omega (arith, p.reaches, length-append front (0 ∷ 0 ∷ []))) (omega (arith, q.reaches, ended)) q)
-
 -- ---- the end of a line: the pointer's field, a space, the count and a line feed
 pub end_put : (mark : List ℕ) (count : ℕ) {at one two three end : ℕ} {before first second third last : List ℕ}
     → Put 5 before at mark one first → Put 1 first one (32 ∷ []) two second → Put 5 second two (decimal count) three third → Put 1 third three (10 ∷ []) end last
@@ -238,6 +193,7 @@ end_put mark count p s q e =
     put_as (omega arith) (ap (λ (x : List ℕ). x ++ 10 ∷ []) (append_assoc mark (32 ∷ []) (decimal count))) (put_then (put_then (put_then p s) q) e)
 
 -- that of a line which counts nothing
-pub uncounted_put : (mark : List ℕ) {most at next end : ℕ} {before after last : List ℕ} → Put most before at mark next after → Put 3 after next (line_end [] 0) end last
+pub uncounted_put : (mark : List ℕ) {most at next end : ℕ} {before after last : List ℕ} → Put most before at mark next after → Put 3 after next (32 ∷ 48 ∷ 10 ∷ []) end last
     → Put (most + 3) before at (line_end mark 0) end last
-uncounted_put mark p q = put_as (omega arith) (sym (append_assoc mark (32 ∷ decimal 0) (10 ∷ []))) (put_then p q)
+unfolding decimal digits places
+uncounted_put mark p q = put_as (omega arith) (sym (append_assoc mark (32 ∷ 48 ∷ []) (10 ∷ []))) (put_then p q)

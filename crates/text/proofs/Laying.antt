@@ -1,4 +1,4 @@
--- The laws of a line: how many bytes it takes, and a line laid into a buffer as bytes put there. Assumes nothing.
+-- The laws of a line: how many bytes it takes, and a line laid into a buffer as bytes put there.
 use mathlib.Core.Path.{◌≡◌, refl, sym, ap, ◌∙◌}
 use mathlib.Core.Bool.{Bool, true, false, cond}
 use mathlib.Core.List.{List, [], ◌∷◌, ◌++◌}
@@ -8,7 +8,7 @@ use native.Mathlib.Nat.{le_trans}
 use native.Mathlib.Omega.{arith}
 use borrow.Author.Tests.{le-leb, leb-true}
 use lib.ListN.{length, take, drop, length-append}
-use Rattle.verdict.specs.declared.Verdict.{Verdict}
+use Rattle.verdict.specs.Verdict.{Verdict}
 use Rattle.verdict.specs.Promise.{Leaves}
 use Rattle.section.proofs.Walk.{le_of_not_lt}
 use Rattle.blocks.specs.declared.Outputs.{Outputs}
@@ -154,9 +154,3 @@ laid_put at bytes text {next} {after} l few p =
           ∙ ap (λ (b : Bool). cond b (take at text ++ (bytes ++ drop (at + length bytes) text)) text) e
           ∙ ap (λ (n : ℕ). take at text ++ (bytes ++ drop n text)) (sym reach);
     }
-
-pub not_laid : (at : ℕ) (bytes text : List ℕ) → line_fits (length text) at ≡ false → Leaves (place_after at bytes text) (laid at bytes text) at text
-not_laid at bytes text e = record {
-  answers = sym (ap (λ (b : Bool). cond b (at + length bytes) at) e);
-  leaves = sym (ap (λ (b : Bool). cond b (take at text ++ (bytes ++ drop (at + length bytes) text)) text) e);
-}

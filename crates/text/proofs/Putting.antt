@@ -1,8 +1,7 @@
--- The laws of bytes put into a buffer: one byte, one run of bytes after another or over its end, the digits of a number. Assumes
--- nothing.
-use mathlib.Core.Path.{◌≡◌, refl, sym, ap, ap₂, ◌∙◌}
+-- The laws of bytes put into a buffer: one byte, one run of bytes after another or over its end, the digits of a number.
+use mathlib.Core.Path.{◌≡◌, refl, sym, ap, ap₂, ◌∙◌, subst}
 use mathlib.Core.List.{List, [], ◌∷◌, ◌++◌, append-nil, append_assoc}
-use Prim.Native.Nat.{ℕ, suc, ◌+◌, ◌-◌, ◌/◌, ◌%◌, ◌≤◌, ◌<◌}
+use Prim.Native.Nat.{ℕ, suc, ◌+◌, ◌-◌, ◌≤◌, ◌<◌}
 use native.Mathlib.Nat.{add-zero, le_refl}
 use native.Mathlib.Numerals.{add-one}
 use native.Mathlib.Omega.{arith}
@@ -29,15 +28,6 @@ put_none most text at l = record {
   holds = sym (take-append-drop at text);
 }
 
--- nothing yet
-pub put_begin : (most : ℕ) (text : List ℕ) (at : ℕ) → at ≤ length text → Put most text at [] (at + 0) text
-put_begin most text at l = record {
-  few = omega arith;
-  reaches = refl;
-  room = omega arith;
-  holds = sym (ap (λ (n : ℕ). take at text ++ drop n text) (add-zero at) ∙ take-append-drop at text);
-}
-
 -- one byte
 pub put_one : (text : List ℕ) (at byte : ℕ) → at < length text → Put 1 text at (byte ∷ []) (at + 1) (set text at byte)
 put_one text at byte l = record {
@@ -55,6 +45,10 @@ put_as {most} {more} {at} {next} {before} {bytes} {after} {same} l e p = record 
   room = p.room;
   holds = p.holds ∙ ap (λ (x : List ℕ). take at before ++ (x ++ drop next before)) e;
 }
+
+-- of so many bytes
+pub put_reaching : (k : ℕ) {most at next : ℕ} {before bytes after : List ℕ} → length bytes ≡ k → Put most before at bytes next after → Put most before at bytes (at + k) after
+put_reaching k {most} {at} {next} {before} {bytes} {after} e p = subst (λ (n : ℕ). Put most before at bytes n after) (p.reaches ∙ ap (λ (n : ℕ). at + n) e) p
 
 -- more from inside it on, over the spare bytes at its end
 module _ (bytes spare : List ℕ) {most more at far next end : ℕ} {before after rest last : List ℕ} where
@@ -115,25 +109,27 @@ module _ {at next : ℕ} {before bytes after : List ℕ} (o : Over before at byt
       → Put (8 + most) before at (bytes ++ rest) end last
   covered l q = put_over bytes o.spare o.eight o.reaches (omega (arith, o.reaches, q.reaches, l)) q
 
--- ---- a run of bytes, one after the other
-pub put_more : (byte i : ℕ) {most at : ℕ} {before bytes after : List ℕ} → at + i < length before → Put most before at bytes (at + i) after
-    → Put (most + 1) before at (bytes ++ byte ∷ []) (at + (i + 1)) (set after (at + i) byte)
-put_more byte i {most} {at} {before} {bytes} {after} l p =
-    let q = put_then p (put_one after (at + i) byte (omega (arith, put_long p))) in
-    let n : at + i + 1 ≡ at + (i + 1) = omega arith in
+-- one byte more, before those that are there
+pub put_before : (byte : ℕ) {most at next : ℕ} {before bytes after : List ℕ} → length bytes < most → Put most before (at + 1) bytes next after
+    → Put most before at (byte ∷ bytes) next (set after at byte)
+put_before byte {most} {at} {next} {before} {bytes} {after} l p =
+    let long : at < length before = omega (arith, p.reaches, p.room) in
+    let front : length (take at before) ≡ at = length-take-le at before (omega (arith, long)) in
+    let past : suc at ≡ length (take at before) + 1 = omega (arith, front) in
+    let rest : List ℕ = bytes ++ drop next before in
+    let whole : after ≡ take at before ++ get_or before at 0 ∷ rest =
+    p.holds ∙ ap (λ (x : List ℕ). x ++ rest) (ap (λ (n : ℕ). take n before) (add-one at) ∙ take-suc before at 0 long) ∙ append_assoc (take at before) (get_or before at 0 ∷ []) rest
+    in
     record {
-      few = q.few;
-      reaches = sym n ∙ q.reaches;
-      room = omega arith;
-      holds = q.holds ∙ ap (λ (k : ℕ). take at before ++ ((bytes ++ byte ∷ []) ++ drop k before)) n;
+      few = omega (arith, l);
+      reaches = omega (arith, p.reaches);
+      room = p.room;
+      holds =
+          ap (λ (x : List ℕ). set x at byte) whole
+          ∙ set_split (take at before ++ get_or before at 0 ∷ rest) at byte (omega (arith, front, length-append (take at before) (get_or before at 0 ∷ rest)))
+          ∙ ap₂ (λ (x y : List ℕ). x ++ byte ∷ y) (take_at (take at before) (get_or before at 0 ∷ rest) at front)
+          (ap (λ (n : ℕ). drop n (take at before ++ get_or before at 0 ∷ rest)) past ∙ drop-append-add (take at before) (get_or before at 0 ∷ rest) 1);
     }
-
-pub put_next : (bytes : List ℕ) (i : ℕ) {at : ℕ} {before after : List ℕ} → i < length bytes → at + length bytes ≤ length before → Put (length bytes) before at (take i bytes) (at + i) after
-    → Put (length bytes) before at (take (i + 1) bytes) (at + (i + 1)) (set after (at + i) (get_or bytes i 0))
-put_next bytes i {at} {before} {after} l u p =
-    let e : take i bytes ++ get_or bytes i 0 ∷ [] ≡ take (i + 1) bytes = sym (ap (λ (n : ℕ). take n bytes) (add-one i) ∙ take-suc bytes i 0 l) in
-    let q = put_as (le_refl (length bytes + 1)) e (put_more (get_or bytes i 0) i (omega arith) p) in
-    record { few = omega (arith, length-take-le (i + 1) bytes (omega arith)); reaches = q.reaches; room = q.room; holds = q.holds }
 
 -- ---- a number
 module _ (n : ℕ) where
@@ -157,15 +153,7 @@ module _ (n : ℕ) where
   unfolding places
   places_5 e = simp (le-ltb n 10 (omega arith), le-ltb n 100 (omega arith), le-ltb n 1000 (omega arith), le-ltb n 10000 e)
 
--- a number's digits before the last two, and then those two
-pub put_two_more : (n : ℕ) {k at next end : ℕ} {before after last : List ℕ} → Put k before at (digits k (n / 100)) next after
-    → Put 2 after next (digits 2 n) end last → Put (k + 2) before at (digits (suc (suc k)) n) end last
-unfolding digits
-put_two_more n {k} p q =
-    let hundreds : n / 100 ≡ n / 10 / 10 = omega arith in
-    put_as (omega arith)
-    (ap (λ (m : ℕ). digits k m ++ digits 2 n) hundreds ∙ sym (append_assoc (digits k (n / 10 / 10)) ((48 + n / 10 % 10) ∷ []) ((48 + n % 10) ∷ [])))
-    (put_then p q)
+pub ruleset places_laws = (places_1, places_2, places_3, places_4, places_5)
 
 -- as many digits as a number takes
 pub put_decimal : (n : ℕ) {k at next : ℕ} {before after : List ℕ} → places n ≡ k → k ≤ 5 → Put k before at (digits k n) next after → Put 5 before at (decimal n) next after

@@ -1,4 +1,4 @@
--- What the contracts of the functions that put a line's pieces cite, beside the definitions that a caller reads. Assumes nothing.
+-- What the contracts of the functions that put a line's pieces cite, beside the definitions that a caller reads.
 use Rattle.std.specs.Prelude.{ℕ, ◌+◌, ◌≤◌, ◌≡◌, ◌++◌, length, take, drop}
 use Rattle.verdict.specs.Lists.{Text}
 

@@ -1,8 +1,8 @@
--- The lines of a run (document 01, "The bench program"): a first line with blocks and table words, a line for each block of each
--- scan, a last line with the scans. Fields are parted by a space, lines end in a line feed; bytes are ASCII. Assumes nothing.
+-- The lines of a run: a first line with blocks and table words, a line for each block of each scan, a last line with the scans.
+-- Fields are parted by a space, lines end in a line feed; bytes are ASCII.
 use Rattle.std.specs.Prelude.{ℕ, zero, suc, ◌+◌, ◌*◌, ◌/◌, ◌%◌, ◌^◌, ◌<◌, ◌≡◌, Bool, cond, [], ◌∷◌, ◌++◌, leb, ltb, length, take, drop}
 use Rattle.verdict.specs.Lists.{Text}
-use Rattle.verdict.specs.declared.Verdict.{Verdict}
+use Rattle.verdict.specs.Verdict.{Verdict}
 use Rattle.io.specs.Digits.{IsDigitCount, last_digits as kit_digits}
 use Rattle.blocks.specs.declared.Outputs.{Outputs}
 use Rattle.blocks.specs.Kind.{has_pointer}

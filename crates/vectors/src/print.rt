@@ -1,32 +1,29 @@
-// What a case prints. Its line starts with a line feed. Each function fails where a write does.
-use std::io;
-use verdict::Verdict;
+// What a case prints. Its line starts with a line feed.
+use std::fmt;
+use verdict::Refusal;
 
-pub(crate) fn text(rt: &impl Print, s: &[u8]) -> io::Result<()> {
-    rt.write_all(s)
-}
+// Numbers, each after a space.
+#[derive(Clone, Copy)]
+pub(crate) struct Numbers<'a>(pub &'a [u16]);
 
-// A number after a space.
-pub(crate) fn word(rt: &impl Print, w: u16) -> io::Result<()> {
-    print!(rt; " {w}")
-}
-
-fn words(rt: &impl Print, list: &[u16]) -> io::Result<()> {
-    for w in list {
-        word(rt, *w)?;
+impl fmt::Display for Numbers<'_> {
+    fn fmt<W: fmt::Write>(&self, f: &mut fmt::Formatter<W>) -> fmt::Result {
+        for number in self.0 {
+            write!(f, " {number}")?;
+        }
+        Ok(())
     }
-    Ok(())
 }
 
-// Numbers after their name.
-pub(crate) fn numbers(rt: &impl Print, name: &[u8], list: &[u16]) -> io::Result<()> {
-    text(rt, name)?;
-    words(rt, list)
-}
+// An answer's number and place, 0 and 0 where the call is done, after a colon.
+#[derive(Clone, Copy)]
+pub(crate) struct Answer(pub Result<(), Refusal>);
 
-// A verdict; no place here needs more than 16 bits.
-pub(crate) fn verdict(rt: &impl Print, v: Verdict) -> io::Result<()> {
-    text(rt, b":")?;
-    word(rt, v.number)?;
-    word(rt, (v.place % 65536) as u16)
+impl fmt::Display for Answer {
+    fn fmt<W: fmt::Write>(&self, f: &mut fmt::Formatter<W>) -> fmt::Result {
+        match self.0 {
+            Ok(()) => write!(f, ": 0 0"),
+            Err(refusal) => write!(f, ": {} {}", refusal.fault.number(), refusal.place),
+        }
+    }
 }

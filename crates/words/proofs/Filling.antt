@@ -1,7 +1,7 @@
 -- The laws of the words that bytes make: how many they are, each by its bytes, and a loop that puts them at the front of the
 -- lent words. Assumes nothing.
 use mathlib.Core.Path.{◌≡◌, refl, sym, ap, ap₂, ◌∙◌}
-use mathlib.Core.Bool.{Bool, false, cond}
+use mathlib.Core.Bool.{Bool, cond}
 use mathlib.Core.List.{List, ◌++◌}
 use Prim.Native.Nat.{ℕ, zero, suc, ◌+◌, ◌≤◌, ◌<◌}
 use native.Mathlib.Nat.{zero-add, add-zero, not-suc-le-zero}
@@ -10,9 +10,7 @@ use native.Mathlib.Omega.{arith}
 use borrow.Author.Tests.{le-leb, lt-leb}
 use lib.ListN.{length, get_or, set, drop}
 use lib.Seq.{paste, paste-zero, paste-suc, length-paste, take-length}
-use Rattle.verdict.specs.Promise.{Leaves}
-use Rattle.verdict.specs.Verdict.{verdict, done}
-use Rattle.words.specs.Words.{word_in, words_from, words_count, words_in, odd_byte, converted, to_words, filled}
+use Rattle.words.specs.Words.{word_in, words_from, words_count, words_in, filled}
 
 pub words_length : (bs : List ℕ) (n k : ℕ) → length (words_from bs k n) ≡ n
 unfolding words_from
@@ -64,17 +62,11 @@ module _ {bs ws : List ℕ} where
         ∙ ap₂ (λ (m : List ℕ) (i : ℕ). m ++ drop i ws) (take-length (words_in bs)) (zero-add (length (words_in bs)) ∙ sym whole)
 
     -- after the last word
-    pub filled_done : words_count bs ≤ k → Leaves (to_words bs ws) (filled bs ws) (converted done (words_count bs) (odd_byte bs)) table
-    unfolding to_words filled
-    filled_done l = record {
-      answers = sym (ap (λ (b : Bool). cond b (converted done (words_count bs) (odd_byte bs)) (converted (verdict 12 0) 0 false)) (le-leb (words_count bs) (length ws) o.room));
-      leaves = all_in l ∙ sym (ap (λ (b : Bool). cond b (words_in bs ++ drop (words_count bs) ws) ws) (le-leb (words_count bs) (length ws) o.room));
-    }
+    pub all_filled : words_count bs ≤ k → table ≡ filled bs ws
+    unfolding filled
+    all_filled l = all_in l ∙ sym (ap (λ (b : Bool). cond b (words_in bs ++ drop (words_count bs) ws) ws) (le-leb (words_count bs) (length ws) o.room))
 
 -- too few lent words
-pub no_room : (bs ws : List ℕ) → length ws < words_count bs → Leaves (to_words bs ws) (filled bs ws) (converted (verdict 12 0) 0 false) ws
-unfolding to_words filled
-no_room bs ws l = record {
-  answers = sym (ap (λ (b : Bool). cond b (converted done (words_count bs) (odd_byte bs)) (converted (verdict 12 0) 0 false)) (lt-leb (words_count bs) (length ws) l));
-  leaves = sym (ap (λ (b : Bool). cond b (words_in bs ++ drop (words_count bs) ws) ws) (lt-leb (words_count bs) (length ws) l));
-}
+pub none_filled : (bs ws : List ℕ) → length ws < words_count bs → ws ≡ filled bs ws
+unfolding filled
+none_filled bs ws l = sym (ap (λ (b : Bool). cond b (words_in bs ++ drop (words_count bs) ws) ws) (lt-leb (words_count bs) (length ws) l))

@@ -1,9 +1,8 @@
--- The words that bytes make (document 01, "The bench program"): big-endian words of 16 bits, so that word k is
+-- The words that bytes make: big-endian words of 16 bits, so that word k is
 -- 256 * byte 2k + byte 2k+1, words and bytes counted from 0. An odd last byte makes no word. Assumes nothing.
-use Rattle.std.specs.Prelude.{ℕ, zero, suc, ◌+◌, ◌*◌, ◌/◌, ◌%◌, Bool, false, cond, [], ◌∷◌, ◌++◌, leb, eqb, length, get_or, drop}
+use Rattle.std.specs.Prelude.{ℕ, zero, suc, ◌+◌, ◌*◌, ◌/◌, ◌%◌, Bool, cond, [], ◌∷◌, ◌++◌, leb, eqb, length, get_or, drop}
 use Rattle.verdict.specs.Lists.{Bytes, Words}
-use Rattle.verdict.specs.declared.Verdict.{Verdict}
-use Rattle.verdict.specs.Verdict.{verdict, done}
+use Rattle.verdict.specs.Verdict.{Verdict, verdict, done, Said, said_by}
 use Rattle.words.specs.declared.Converted.{Converted}
 
 abbrev pub byte : Bytes → ℕ → ℕ
@@ -30,11 +29,14 @@ odd_byte bs = eqb (length bs % 2) 1
 -- ---- for the calls
 
 -- the answer: 12 where the lent words are fewer than the bytes make
-abbrev pub converted : Verdict → ℕ → Bool → Converted
-converted v count odd = record { verdict = v; count = count; odd = odd }
+abbrev pub converted : ℕ → Bool → Converted
+converted count odd = record { count = count; odd = odd }
 
-unfoldable pub to_words : Bytes → Words → Converted
-to_words bs ws = cond (leb (words_count bs) (length ws)) (converted done (words_count bs) (odd_byte bs)) (converted (verdict 12 0) 0 false)
+abbrev pub room_verdict : Bytes → Words → Verdict
+room_verdict bs ws = cond (leb (words_count bs) (length ws)) done (verdict 12 0)
+
+unfoldable pub to_words : Bytes → Words → Said Converted
+to_words bs ws = said_by (room_verdict bs ws) (converted (words_count bs) (odd_byte bs))
 
 -- what the lent words hold afterwards: the words that the bytes make, and after them what was there
 unfoldable pub filled : Bytes → Words → Words

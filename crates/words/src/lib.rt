@@ -1,19 +1,17 @@
 // The words of a bench file: its bytes as big-endian words.
 //
-// The call takes any bytes and any words. It does its work, or it refuses with document 01's number and place and changes
-// nothing.
+// The call takes any bytes and any words. It does its work, or it refuses and changes nothing.
 #![tactic(auto)]
 
 ghost use Rattle.std.specs.Prelude.{◌≡◌, ◌+◌, ◌*◌};
-ghost use Rattle.verdict.specs.Promise.{Leaves};
+ghost use Rattle.verdict.specs.Verdict.{numbered};
 ghost use Rattle.words.specs.Words.{to_words, filled};
 
-use verdict::Verdict;
+use verdict::{Fault, Refusal};
 
-// How many words the bytes make, and whether an odd byte is left.
-#[derive(Clone, Copy)]
+/// How many words the bytes make, and whether an odd byte is left.
+#[derive(Clone, Copy, Debug, PartialEq, Eq)]
 pub struct Converted {
-    pub verdict: Verdict,
     pub count: usize,
     pub odd: bool,
 }
@@ -22,36 +20,23 @@ pub struct Converted {
 fn joined(high: u8, low: u8) -> u16
     ensures { result ≡ 256 * high + low }
 {
-    256 * high as u16 + low as u16
+    u16::from_be_bytes([high, low])
 }
 
-// Puts the bytes as words at the front of the lent words.
-pub fn to_words(bytes: &[u8], words: &mut [u16]) -> Converted
-    ensures { Leaves (to_words bytes.now words.old) (filled bytes.now words.old)
-        result words.new }
+/// Puts the bytes as words at the front of the lent words: `Fault::Call` where these are fewer than the bytes make.
+#[tactic(auto, using(crate::proofs::Filling::one_more), unfolding(crate::specs::Words::to_words))]
+pub fn to_words(bytes: &[u8], words: &mut [u16]) -> Result<Converted, Refusal>
+    ensures answer { numbered result ≡ to_words bytes.now words.old }
+    ensures words { words.new ≡ filled bytes.now words.old }
 {
     let count = bytes.len() / 2;
     if words.len() < count {
-        return Converted {
-            verdict: Verdict {
-                number: 12,
-                place: 0,
-            },
-            count: 0,
-            odd: false,
-        };
+        return Err(Fault::Call.at(0));
     }
-    let mut k = 0;
-    while k < count {
+    // By index: of what a loop over `iter_mut` wrote, nothing is known afterwards.
+    for k in 0..count {
         words[k] = joined(bytes[2 * k], bytes[2 * k + 1]);
-        k += 1;
     }
-    Converted {
-        verdict: Verdict {
-            number: 0,
-            place: 0,
-        },
-        count,
-        odd: bytes.len() % 2 == 1,
-    }
+    let odd = bytes.len() % 2 == 1;
+    Ok(Converted { count, odd })
 }

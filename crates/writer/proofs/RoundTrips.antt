@@ -3,7 +3,7 @@
 use mathlib.Core.Path.{◌≡◌, refl, sym, ap, ap₂, ◌∙◌, subst}
 use mathlib.Core.Bool.{Bool, true, false, cond, ◌&&◌, false≢true}
 use mathlib.Core.List.{List, [], ◌∷◌, ◌++◌, flat_map, append_assoc}
-use mathlib.Core.Option.{none, some}
+use Rattle.std.specs.Prelude.{Some, None}
 use Prim.Native.Nat.{ℕ, zero, suc, ◌+◌, ◌-◌, ◌*◌, ◌≤◌, ◌<◌}
 use native.Mathlib.Decide.{ℕ_discrete}
 use native.Mathlib.Omega.{arith}
@@ -11,13 +11,12 @@ use borrow.Author.Tests.{leb-true}
 use lib.Dec.{leb, eqb}
 use lib.ListN.{length, take, drop, set, length-set, length-drop}
 use lib.Seq.{take_at, take-add, drop_at, drop-drop, append_snoc, get_or-set_same, get_or-set_other}
-use Rattle.verdict.specs.declared.Verdict.{Verdict}
-use Rattle.verdict.specs.Verdict.{verdict, done, then}
-use Rattle.verdict.specs.Said.{Said, said_by}
+use Rattle.verdict.specs.Verdict.{Verdict, verdict, done, then}
+use Rattle.verdict.specs.Verdict.{Said, said_by}
 use Rattle.runs.specs.Run.{placed}
 use Rattle.section.specs.Walk.{first_of}
 use Rattle.section.proofs.Limits.{in_count}
-use Rattle.section.proofs.Walk.{then_zero, clean_done, done_clean}
+use Rattle.section.proofs.Walk.{then_zero, then_next, clean_done, done_clean}
 use Rattle.table.specs.declared.sizes.Sizes.{Sizes}
 use Rattle.table.specs.Table.{allowed}
 use Rattle.table.proofs.Good.{sizes_allowed}
@@ -30,7 +29,7 @@ use Rattle.rules.proofs.Faults.{faults_long}
 use Rattle.rules.proofs.Good.{good_block, record_clean}
 use Rattle.areas.specs.Areas.{has_level, areas_spelled, areas_end}
 use Rattle.network.specs.Network.{Network, block_count, block_of, no_block, words_of}
-use Rattle.network.specs.Check.{most_blocks, network_in, checked, opened, record_start, read_verdict, read_at, read}
+use Rattle.network.specs.Check.{most_blocks, network_in, checked, opened_value, record_start, read_verdict, read_at, read}
 use Rattle.network.specs.Sound.{GoodNetwork, Sound}
 use Rattle.network.proofs.Accepted.{accepts_exactly, spellable, spells_back, good_accepted}
 use Rattle.network.proofs.Good.{whole_front}
@@ -110,6 +109,12 @@ module _ (net : Network) (j : ℕ) (b : Block) (l : j < block_count net) where
         ];
   }
 
+-- ---- accepted words are read by their opening
+read_accepted : (ws : List ℕ) (k : ℕ) → (checked ws).number ≡ 0 → read ws k ≡ read_at ws (opened_value ws) k
+unfolding read_at
+read_accepted ws k e =
+    ap (λ (v : Verdict). said_by v (block_in (drop (record_start ws (k - 1)) ws))) (then_next (checked ws) (read_verdict (opened_value ws) k (length ws)) e)
+
 -- ---- a record that the writer takes is good
 written_good : (z : Sizes) (k : ℕ) (b : Block) (size : ℕ) → (write_verdict z k b size).number ≡ 0 → GoodBlock z (k - 1) b
 unfolding write_verdict
@@ -141,7 +146,8 @@ written_is_read ws k b buffer e l u w =
       accepted = ap checked words ∙ done_now;
       is_read =
           ap₂ read words (sym one)
-          ∙ reads_block all (opened all) j refl (ap (λ (v : Verdict). v.number) done_now) there
+          ∙ read_accepted all (j + 1) (ap (λ (v : Verdict). v.number) done_now)
+          ∙ reads_block all (opened_value all) j refl (ap (λ (v : Verdict). v.number) done_now) there
           ∙ ap (λ (n : Network). said_by done (block_of n j)) back
           ∙ ap (said_by done) (changed_block net j b below);
     }
@@ -157,26 +163,24 @@ module _ (ws : List ℕ) (k : ℕ) (b : Block) (e : read ws k ≡ said_by done b
   all_three true false z h = absurd (false≢true h)
   all_three false y z h = absurd (false≢true h)
 
-  verdict_is : read_verdict (opened ws) k (length ws) ≡ done
-  unfolding read_at
+  verdict_is : then (checked ws) (read_verdict (opened_value ws) k (length ws)) ≡ done
   verdict_is = ap (λ (s : Said Block). s.verdict) e
 
-  tests : ((checked ws).number ≡ 0) × ((leb 1 k && leb k (block_count (network_in ws)) && leb (opened ws).next (length ws)) ≡ true)
+  tests : ((checked ws).number ≡ 0) × ((leb 1 k && leb k (block_count (network_in ws)) && leb (opened_value ws).next (length ws)) ≡ true)
   unfolding read_verdict
   tests =
-      let t = then_zero (checked ws) (cond (leb 1 k && leb k (block_count (network_in ws)) && leb (opened ws).next (length ws)) done (verdict 12 0)) (ap (λ (v : Verdict). v.number) verdict_is) in
+      let t = then_zero (checked ws) (cond (leb 1 k && leb k (block_count (network_in ws)) && leb (opened_value ws).next (length ws)) done (verdict 12 0)) (ap (λ (v : Verdict). v.number) verdict_is) in
       (t.0, holds _ t.1)
 
   counts : (1 ≤ k) × (k ≤ block_count (network_in ws))
   counts =
-      let t = all_three (leb 1 k) (leb k (block_count (network_in ws))) (leb (opened ws).next (length ws)) tests.1 in
+      let t = all_three (leb 1 k) (leb k (block_count (network_in ws))) (leb (opened_value ws).next (length ws)) tests.1 in
       (leb-true 1 k t.0, leb-true k (block_count (network_in ws)) t.1)
 
   value_is : block_in (drop (record_start ws (k - 1)) ws) ≡ b
-  unfolding read_at
   value_is =
-      let same : some (block_in (drop (record_start ws (k - 1)) ws)) ≡ some b =
-      sym (ap (λ (v : Verdict). cond (eqb v.number 0) (some (block_in (drop (record_start ws (k - 1)) ws))) none) verdict_is) ∙ ap (λ (s : Said Block). s.value) e in
+      let same : Some (block_in (drop (record_start ws (k - 1)) ws)) ≡ Some b =
+      sym (ap (λ (v : Verdict). cond (eqb v.number 0) (Some (block_in (drop (record_start ws (k - 1)) ws))) None) verdict_is) ∙ ap (λ (s : Said Block). s.value) e in
       cc
 
 -- the first 15 words are those of the record that they spell

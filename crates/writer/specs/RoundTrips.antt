@@ -1,8 +1,8 @@
--- The round trips of a record between reader and writer (demand 2). Assumes nothing.
+-- The round trips of a record between reader and writer. Assumes nothing.
 use Rattle.std.specs.Prelude.{ℕ, ◌-◌, ◌≤◌, ◌≡◌, length}
 use Rattle.verdict.specs.Lists.{Words}
 use Rattle.verdict.specs.Verdict.{done}
-use Rattle.verdict.specs.Said.{said_by}
+use Rattle.verdict.specs.Verdict.{said_by}
 use Rattle.runs.specs.Run.{run, placed}
 use Rattle.record.specs.declared.Block.{Block}
 use Rattle.record.specs.Record.{record_words}

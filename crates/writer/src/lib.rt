@@ -1,78 +1,51 @@
 // The record writer: puts a block's record into lent words.
 //
-// The call takes any sizes, any record and any buffer. It writes, or it refuses with document 01's number and place and changes
-// nothing.
+// The call takes any sizes, any record and any buffer. It writes, or it refuses and changes nothing.
 #![tactic(auto)]
 
 ghost use Rattle.std.specs.Prelude.{◌≡◌, length};
-ghost use Rattle.verdict.specs.Promise.{Leaves};
+ghost use Rattle.verdict.specs.Verdict.{numbered, said_by};
 ghost use Rattle.record.specs.Record.{spelled};
-ghost use Rattle.writer.specs.Writer.{write_verdict, write_buffer};
+ghost use Rattle.writer.specs.Writer.{write_verdict, write_buffer, write_tested};
 
 use network::MOST_BLOCKS;
-use record::Block;
+use record::{Block, WORDS};
 use rules::judged;
 use table::{Sizes, allowed};
-use verdict::Verdict;
+use verdict::{Fault, Refusal};
 
-// The 15 words of a record.
+// The words of a record.
 fn spell(buffer: &mut [u16], block: Block)
     requires { length buffer.old ≡ 15 }
     ensures { buffer.new ≡ spelled block }
 {
-    buffer[0] = block.kind;
-    buffer[1] = block.n;
-    buffer[2] = block.top.class;
-    buffer[3] = block.top.number;
-    buffer[4] = block.middle.class;
-    buffer[5] = block.middle.number;
-    buffer[6] = block.inputs.top.code;
-    buffer[7] = block.inputs.top.number;
-    buffer[8] = block.inputs.middle.code;
-    buffer[9] = block.inputs.middle.number;
-    buffer[10] = block.inputs.bottom.code;
-    buffer[11] = block.inputs.bottom.number;
-    buffer[12] = block.coils.top;
-    buffer[13] = block.coils.middle;
-    buffer[14] = block.coils.bottom;
+    buffer.copy_from_slice(&block.words());
 }
 
-// Puts block k's record into 15 lent words.
-pub fn write_record(sizes: Sizes, k: usize, block: Block, buffer: &mut [u16]) -> Verdict
-    ensures { Leaves (write_verdict sizes k block (length buffer.old)) (write_buffer sizes k block buffer.old)
-        result buffer.new }
+// The sizes, k, the words of the record and then how many words the buffer has, tested one after the other.
+fn test(sizes: Sizes, k: usize, block: Block, size: usize) -> Result<(), Refusal>
+    ensures { result ≡ write_tested sizes k block size }
 {
     if !allowed(sizes) {
-        return Verdict {
-            number: 3,
-            place: 0,
-        };
+        return Err(Fault::Limit.at(0));
     }
-    if k < 1 {
-        return Verdict {
-            number: 12,
-            place: 0,
-        };
+    if !(1..=MOST_BLOCKS).contains(&k) {
+        return Err(Fault::Call.at(0));
     }
-    if MOST_BLOCKS < k {
-        return Verdict {
-            number: 12,
-            place: 0,
-        };
+    judged(sizes, k - 1, block, 0, WORDS)?;
+    if size != WORDS {
+        return Err(Fault::Call.at(0));
     }
-    let verdict = judged(sizes, k - 1, block, 0, 15);
-    if verdict.number != 0 {
-        return verdict;
-    }
-    if buffer.len() != 15 {
-        return Verdict {
-            number: 12,
-            place: 0,
-        };
-    }
+    Ok(())
+}
+
+/// Puts block k's record into 15 lent words.
+#[tactic(auto, using(crate::proofs::Writing::write_said, crate::proofs::Writing::buffer_long))]
+pub fn write_record(sizes: Sizes, k: usize, block: Block, buffer: &mut [u16]) -> Result<(), Refusal>
+    ensures answer { numbered result ≡ said_by (write_verdict sizes k block (length buffer.old)) tt }
+    ensures buffer { buffer.new ≡ write_buffer sizes k block buffer.old }
+{
+    test(sizes, k, block, buffer.len())?;
     spell(buffer, block);
-    Verdict {
-        number: 0,
-        place: 0,
-    }
+    Ok(())
 }

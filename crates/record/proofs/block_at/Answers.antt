@@ -1,4 +1,5 @@
 -- `record::block_at` meets its contract: all words are there, or those that are there and 0 for the others. Assumes nothing.
+use borrow.Author.Rules.{rules}
 use mathlib.Core.Path.{◌∙◌}
 use Rattle.record.proofs.Words.{block_there, block_same}
 use Rattle.record.proofs.block_at.Goals as goal

@@ -1,14 +1,15 @@
--- `record::padded` meets its contract. The loop's invariant: the words passed stand at the front of the array, and after them 0.
--- Assumes nothing.
-use mathlib.Core.Path.{◌≡◌, refl, sym, ◌∙◌}
-use Prim.Native.Nat.{ℕ}
+-- `record::padded` meets its contract: the words that are there, and after them 0.
+use Rattle.std.proofs.Common.{◌≡◌, ℕ, ◌+◌, List, [], ◌∷◌, ◌++◌, refl, sym, ◌∙◌, ap, arith, drop, length, ◌≤◌}
+use Rattle.std.specs.Prelude.{suc, zero}
 use native.Mathlib.Decide.{dec_lt}
-use native.Mathlib.Omega.{arith}
-use borrow.Author.Count.{below_none, below_more}
-use lib.ListN.{replicate, length-replicate, get_or-replicate, get_or-eq_default, length-set}
-use lib.Seq.{get_or-set_same, get_or-set_other}
+use lib.ListN.{replicate, length-replicate, get_or-replicate, get_or-eq_default}
+use Rattle.std.proofs.Math.Seq.{drop-length}
+use mathlib.Core.List.{append-nil}
+use Rattle.std.specs.List.{slice_range}
+use Rattle.std.proofs.lemmas.List.Folds.{drop_split}
 use Rattle.section.specs.Walk.{word}
 use Rattle.section.proofs.Walk.{le_of_not_lt}
+use Rattle.section.proofs.Words.{word_from}
 use Rattle.record.proofs.padded.Goals as goal
 
 zeros : (n j : ℕ) → word (replicate n 0) j ≡ 0
@@ -17,25 +18,24 @@ zeros n j = elim (dec_lt j n) [
   | no l ↦ get_or-eq_default (replicate n 0) 0 (omega (arith, length-replicate {A = ℕ} n 0, le_of_not_lt l))
 ]
 
-pub loop-k-init : goal.loop-k-init
-loop-k-init c = (omega arith, refl, below_none _, λ j l. zeros 15 j)
+before_zeros : (xs zs : List ℕ) (k : ℕ) → ((j : ℕ) → word zs j ≡ 0) → word (xs ++ zs) k ≡ word xs k
+before_zeros [] zs k h = h k
+before_zeros (x ∷ xs) zs zero h = refl
+before_zeros (x ∷ xs) zs (suc k) h = before_zeros xs zs k h
 
-pub loop-k-preserved : goal.loop-k-preserved
-loop-k-preserved c =
-    let l = c.loop-k in (
-      omega arith,
-      simp length-set l.invariant.1,
-      below_more _ _
-          (λ j h. get_or-set_other l.fifteen l.k j _ 0 (λ e. omega arith) ∙ l.invariant.2 j h)
-          (get_or-set_same l.fifteen l.k _ 0 (omega arith)),
-      λ j h. get_or-set_other l.fifteen l.k j _ 0 (λ e. omega (arith, e, h)) ∙ l.invariant.3 j (omega (arith, h)),
-    )
+whole : (ws : List ℕ) (i : ℕ) → i ≤ length ws → slice_range ws i (length ws) ≡ drop i ws
+whole ws i l =
+    sym
+    (drop_split ws i (length ws) l
+    ∙ ap (λ (r : List ℕ). slice_range ws i (length ws) ++ r) (drop-length ws)
+    ∙ append-nil (slice_range ws i (length ws)))
 
-pub returns : goal.returns
-returns c j =
-    let l = c.loop-k in
+pub returns-in-Some : goal.returns-in-Some
+returns-in-Some c k =
     let x = c.args in
-    elim (dec_lt j l.k) [
-      | yes u ↦ l.invariant.2 j u
-      | no u ↦ l.invariant.3 j (le_of_not_lt u) ∙ sym (get_or-eq_default x.words.now 0 (omega (arith, c.loop-k-test.false, le_of_not_lt u)))
-    ]
+    let there = c.in-Some.ensures.lookup.0 in
+    let rest : c.copy_from_slice.new.self ≡ drop x.i x.words.now =
+    c.copy_from_slice.ensures.after ∙ there.2 ∙ whole x.words.now x.i there.0 in
+    before_zeros _ _ k (λ j. sym (word_from (replicate 15 0) _ j) ∙ zeros 15 _)
+    ∙ ap (λ (r : List ℕ). word r k) rest
+    ∙ sym (word_from x.words.now x.i k)

@@ -6,4 +6,4 @@ pub returns-then-next-visits : goal.returns-then-next-visits
 returns-then-next-visits c = let x = c.args in no_last x.text.now x.at x.next x.visits x.scans c.requires c.if-next-visits.true
 
 pub returns : goal.returns
-returns c = let x = c.args in a_last x.text.now x.at x.next x.visits x.scans c.requires c.if-next-visits.false c.put_end.ensures
+returns c = let x = c.args in a_last x.text.now x.at x.next x.visits x.scans c.requires c.if-next-visits.false c.put_end.ensures.answer c.put_end.ensures.text

@@ -1,32 +1,49 @@
--- `run::run` meets its contract: the tests in their order, then the visits. Assumes nothing.
-use mathlib.Core.Path.{refl}
+-- `run::run` meets its contract: the tests in their order, then the visits.
+use mathlib.Core.Path.{ap, ◌∙◌}
 use native.Mathlib.Omega.{arith}
-use Rattle.run.proofs.Running.{bad_file, visits_small, state_small, bad_state, bad_visit, bad_room, is_taken, at_end, goes_on}
+use Rattle.std.specs.Prelude.{Err}
+use Rattle.verdict.specs.declared.Fault.TheVariants.{Call}
+use Rattle.verdict.specs.Verdict.{refusal}
+use Rattle.run.specs.Page.{went_from}
+use Rattle.run.proofs.Running.{Answers, bad_file, bad_call, state_small, answered}
 use Rattle.run.proofs.run.Goals as goal
+use Rattle.run.proofs.run.Goals.{After-at}
 
-pub returns-then-verdict-ne0 : goal.returns-then-verdict-ne0
-returns-then-verdict-ne0 c = let x = c.args in let j = c.check-file.ensures in bad_file x.words.now x.state.now x.from x.text.now j c.if-verdict-ne0.true
+-- the file's refusal
+pub returns-in_err-file-clause-state : goal.returns-in_err-file-clause-state
+returns-in_err-file-clause-state c = let x = c.args in (bad_file x.words.now x.state.now x.from x.text.now _ c.in_err-file.ensures).1
 
-pub overflow_mul-visits : goal.overflow_mul-visits
-overflow_mul-visits c = let x = c.args in let j = c.check-file.ensures in omega (arith, visits_small x.words.now x.state.now x.from x.text.now j c.if-verdict-ne0.false c.count-count.ensures)
+pub returns-in_err-file-clause-text : goal.returns-in_err-file-clause-text
+returns-in_err-file-clause-text c = let x = c.args in (bad_file x.words.now x.state.now x.from x.text.now _ c.in_err-file.ensures).2
 
 pub overflow_add-file : goal.overflow_add-file
-overflow_add-file c = let x = c.args in let j = c.check-file.ensures in omega (arith, state_small x.words.now x.state.now x.from x.text.now j c.if-verdict-ne0.false c.count-count.ensures)
+overflow_add-file c = let x = c.args in omega (arith, state_small x.words.now x.state.now x.from x.text.now _ c.in_ok-file.ensures c.count-count.ensures)
 
-pub returns-then-state-file : goal.returns-then-state-file
-returns-then-state-file c = let x = c.args in let j = c.check-file.ensures in bad_state x.words.now x.state.now x.from x.text.now j c.if-verdict-ne0.false c.count-count.ensures refl c.if-state-file.true
+-- the call's
+refused : (c : After-at) → let x = c.args in Answers x.words.now x.state.now x.from x.text.now (Err (refusal Call 0)) x.state.now x.text.now
+refused c = let x = c.args in bad_call x.words.now x.state.now x.from x.text.now _ c.in_ok-file.ensures c.count-count.ensures c.then-state-file.either
 
-pub returns-then-visits-from : goal.returns-then-visits-from
-returns-then-visits-from c = let x = c.args in let j = c.check-file.ensures in bad_visit x.words.now x.state.now x.from x.text.now j c.if-verdict-ne0.false c.count-count.ensures refl c.if-state-file.false c.if-visits-from.true
+pub returns-then-state-file-clause-answer : goal.returns-then-state-file-clause-answer
+returns-then-state-file-clause-answer c = ap (λ r. went_from c.args.from (Err r)) c.at.ensures ∙ (refused (goal.at.returns-then-state-file-clause-answer c).After-at).0
 
-pub returns-then-text-lt-LEAST_ROOM : goal.returns-then-text-lt-LEAST_ROOM
-returns-then-text-lt-LEAST_ROOM c = let x = c.args in let j = c.check-file.ensures in bad_room x.words.now x.state.now x.from x.text.now j c.if-verdict-ne0.false c.count-count.ensures refl c.if-state-file.false c.if-visits-from.false c.if-text-lt-LEAST_ROOM.true
+pub returns-then-state-file-clause-state : goal.returns-then-state-file-clause-state
+returns-then-state-file-clause-state c = (refused (goal.at.returns-then-state-file-clause-state c).After-at).1
 
-pub put_page-reached-requires : goal.put_page-reached-requires
-put_page-reached-requires c = let x = c.args in let j = c.check-file.ensures in is_taken x.words.now x.state.now x.from x.text.now j c.if-verdict-ne0.false c.count-count.ensures refl c.if-state-file.false c.if-visits-from.false c.if-text-lt-LEAST_ROOM.false
+pub returns-then-state-file-clause-text : goal.returns-then-state-file-clause-text
+returns-then-state-file-clause-text c = (refused (goal.at.returns-then-state-file-clause-text c).After-at).2
 
-pub returns-then-next-visits : goal.returns-then-next-visits
-returns-then-next-visits c = let x = c.args in let j = c.check-file.ensures in at_end x.words.now x.state.now x.from x.text.now j c.if-verdict-ne0.false c.count-count.ensures refl c.if-state-file.false c.if-visits-from.false c.if-text-lt-LEAST_ROOM.false c.put_page-reached.ensures c.if-next-visits.true
+-- the page
+pub returns-clause-answer : goal.returns-clause-answer
+returns-clause-answer c =
+    let x = c.args in
+    (answered x.words.now x.state.now x.from x.text.now _ c.in_ok-file.ensures c.count-count.ensures c.if-state-file.false c.if-visits-from.false c.if-text-lt-LEAST_ROOM.false c.put_page.ensures).0
 
-pub returns : goal.returns
-returns c = let x = c.args in let j = c.check-file.ensures in goes_on x.words.now x.state.now x.from x.text.now j c.if-verdict-ne0.false c.count-count.ensures refl c.if-state-file.false c.if-visits-from.false c.if-text-lt-LEAST_ROOM.false c.put_page-reached.ensures c.if-next-visits.false
+pub returns-clause-state : goal.returns-clause-state
+returns-clause-state c =
+    let x = c.args in
+    (answered x.words.now x.state.now x.from x.text.now _ c.in_ok-file.ensures c.count-count.ensures c.if-state-file.false c.if-visits-from.false c.if-text-lt-LEAST_ROOM.false c.put_page.ensures).1
+
+pub returns-clause-text : goal.returns-clause-text
+returns-clause-text c =
+    let x = c.args in
+    (answered x.words.now x.state.now x.from x.text.now _ c.in_ok-file.ensures c.count-count.ensures c.if-state-file.false c.if-visits-from.false c.if-text-lt-LEAST_ROOM.false c.put_page.ensures).2

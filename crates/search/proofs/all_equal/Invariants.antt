@@ -2,7 +2,7 @@
 use mathlib.Core.Path.{◌≡◌}
 use mathlib.Core.Bool.{Bool, true}
 use mathlib.Core.List.{List}
-use Prim.Native.Nat.{ℕ, ◌-◌, ◌≤◌}
+use Prim.Native.Nat.{ℕ, ◌≤◌}
 use Rattle.search.specs.Inner.{Paired, Equal}
 use Rattle.search.proofs.all_equal.Given as goal
 
@@ -13,6 +13,3 @@ pub record Comparing (x y : List ℕ) (from to : ℕ) (equal : Bool) (k : ℕ) :
 
 abbrev pub invariant-loop-k : goal.invariant-loop-k
 invariant-loop-k l = Comparing l.x l.y l.from l.to l.equal l.k
-
-abbrev pub decreases-loop-k : goal.decreases-loop-k
-decreases-loop-k l = l.to - l.k

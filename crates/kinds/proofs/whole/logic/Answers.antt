@@ -1,35 +1,24 @@
--- `kinds::whole::logic` meets its contract. Assumes nothing.
-use mathlib.Core.Path.{◌≡◌, sym, ap, ◌∙◌}
-use lib.ListN.{length}
-use Rattle.runs.specs.Run.{fault, Accepted}
-use Rattle.bits.specs.Bit.{longest_whole}
-use Rattle.runs.proofs.Refusals.{accepted}
-use Rattle.blocks.specs.Answer.{refused}
-use Rattle.blocks.proofs.Doing.{does, refuses}
-use Rattle.kinds.proofs.Wholes.{logic_off, logic_on}
+-- `kinds::whole::logic` meets its contract.
+use Rattle.std.proofs.Common.{rules, ◌≡◌}
+use Rattle.std.specs.Prelude.{Err}
+use Rattle.blocks.proofs.Doing.{is_off, is_on}
+use Rattle.kinds.proofs.Wholes.{combines_off, combines_on, combines_refused}
 use Rattle.kinds.proofs.whole.logic.Goals as goal
-use Rattle.kinds.proofs.whole.logic.Goals.{Else-number-ne0}
 
--- the runs are not refused
-none : (c : Else-number-ne0) → let x = c.args in fault longest_whole (length x.table.now) x.n x.s x.d ≡ 0
-none c = sym c.fault-number.ensures ∙ c.if-number-ne0.false
-
-lies : (c : Else-number-ne0) → let x = c.args in Accepted longest_whole (length x.table.now) x.n x.s x.d
-lies c = let x = c.args in accepted longest_whole (length x.table.now) x.n x.s x.d (none c)
-
-pub returns-then-number-ne0 : goal.returns-then-number-ne0
-returns-then-number-ne0 c =
-    let e = c.fault-number.ensures in
-    refuses (λ z. c.if-number-ne0.true (e ∙ z)) (c.refused.ensures ∙ ap refused e)
-
-pub returns-then-on : goal.returns-then-on
-returns-then-on c =
+pub returns-then-not-on : goal.returns-then-not-on
+returns-then-not-on c =
     let x = c.args in
-    does (none (goal.at.returns-then-on c).Else-number-ne0)
-    (logic_on x.operation x.table.now x.s x.d x.n x.on c.if-on.true (lies (goal.at.returns-then-on c).Else-number-ne0) c.combine.ensures)
-    c.finished-out.ensures
+    combines_off x.operation x.table.now x.s x.d x.n x.on (is_off x.on.top c.if-not-on.true) c.in_ok-fault.ensures _ c.plain.ensures
 
-pub returns-else-on : goal.returns-else-on
-returns-else-on c =
+pub returns-in_err-combine : goal.returns-in_err-combine
+returns-in_err-combine c =
     let x = c.args in
-    does (none (goal.at.returns-else-on c).Else-number-ne0) (logic_off x.operation x.table.now x.s x.d x.n x.on c.if-on.false) c.finished-out.ensures
+    let h = c.in_err-combine.ensures in
+    let is : c.from_residual-in_err-combine.result ≡ Err c.in_err-combine.field-0.0 = search rules in
+    combines_refused x.operation x.table.now x.s x.d x.n x.on _ _ is h.answer _ h.table
+
+pub returns : goal.returns
+returns c =
+    let x = c.args in
+    let h = c.in_ok-combine.ensures in
+    combines_on x.operation x.table.now x.s x.d x.n x.on (is_on x.on.top c.if-not-on.false) h.answer _ h.table _ c.plain-2.ensures

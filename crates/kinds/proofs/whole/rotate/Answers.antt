@@ -1,44 +1,24 @@
--- `kinds::whole::rotate` meets its contract: of both answers the bit is the one that left. Assumes nothing.
-use mathlib.Core.Path.{◌≡◌, sym, ap, ◌∙◌}
-use lib.ListN.{length}
-use Rattle.runs.specs.Run.{fault, Accepted}
-use Rattle.bits.specs.Bit.{longest_whole}
-use Rattle.runs.proofs.Refusals.{accepted}
-use Rattle.blocks.specs.Answer.{refused}
-use Rattle.blocks.proofs.Doing.{does, refuses, is_off, is_on}
-use Rattle.kinds.proofs.Wholes.{answered, rotate_off, rotate_on}
+-- `kinds::whole::rotate` meets its contract.
+use Rattle.std.proofs.Common.{rules, ◌≡◌}
+use Rattle.std.specs.Prelude.{Err}
+use Rattle.blocks.proofs.Doing.{is_off, is_on}
+use Rattle.kinds.proofs.Wholes.{rotates_off, rotates_on, rotates_refused}
 use Rattle.kinds.proofs.whole.rotate.Goals as goal
-use Rattle.kinds.proofs.whole.rotate.Goals.{Else-number-ne0}
-
--- the runs are not refused
-none : (c : Else-number-ne0) → let x = c.args in fault longest_whole (length x.table.now) x.n x.s x.d ≡ 0
-none c = sym c.fault-number.ensures ∙ c.if-number-ne0.false
-
-lies : (c : Else-number-ne0) → let x = c.args in Accepted longest_whole (length x.table.now) x.n x.s x.d
-lies c = let x = c.args in accepted longest_whole (length x.table.now) x.n x.s x.d (none c)
-
-pub returns-then-number-ne0 : goal.returns-then-number-ne0
-returns-then-number-ne0 c =
-    let e = c.fault-number.ensures in
-    refuses (λ z. c.if-number-ne0.true (e ∙ z)) (c.refused.ensures ∙ ap refused e)
 
 pub returns-then-not-on : goal.returns-then-not-on
 returns-then-not-on c =
     let x = c.args in
-    does (none (goal.at.returns-then-not-on c).Else-number-ne0) (rotate_off x.table.now x.s x.d x.n x.on (is_off x.on.top c.if-not-on.true)) c.finished-off.ensures
+    rotates_off x.table.now x.s x.d x.n x.on (is_off x.on.top c.if-not-on.true) c.in_ok-fault.ensures _ c.plain.ensures
 
-pub returns-in_default : goal.returns-in_default
-unfolding answered
-returns-in_default c =
+pub returns-in_err-left : goal.returns-in_err-left
+returns-in_err-left c =
     let x = c.args in
-    does (none (goal.at.returns-in_default c).Else-number-ne0)
-    (rotate_on x.table.now x.s x.d x.n x.on (is_on x.on.top c.if-not-on.false) (lies (goal.at.returns-in_default c).Else-number-ne0) c.move_one.ensures (sym c.in_default.is))
-    c.finished-off.ensures
+    let h = c.in_err-left.ensures in
+    let is : c.from_residual-in_err-left.result ≡ Err c.in_err-left.field-0.0 = search rules in
+    rotates_refused x.table.now x.s x.d x.n x.on _ _ is h.answer _ h.table
 
 pub returns : goal.returns
-unfolding answered
 returns c =
     let x = c.args in
-    does (none (goal.at.returns c).Else-number-ne0)
-    (rotate_on x.table.now x.s x.d x.n x.on (is_on x.on.top c.if-not-on.false) (lies (goal.at.returns c).Else-number-ne0) c.move_one.ensures (sym c.in-Bit.is))
-    c.finished.ensures
+    let h = c.in_ok-left.ensures in
+    rotates_on x.table.now x.s x.d x.n x.on (is_on x.on.top c.if-not-on.false) _ h.answer _ h.table _ c.plain-2.ensures

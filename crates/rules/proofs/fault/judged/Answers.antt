@@ -1,19 +1,11 @@
--- `rules::fault::judged` meets its contract: words that are all there and earn nothing are done with. Assumes nothing.
-use native.Mathlib.Omega.{arith}
-use mathlib.Core.Path.{sym}
-use Rattle.section.proofs.Walk.{clean_done, begun}
-use Rattle.rules.specs.Fault.{faults}
-use Rattle.rules.proofs.Faults.{faults_long}
+-- `rules::fault::judged` meets its contract: where all 15 words are there, it does not matter how many follow.
+use Rattle.std.proofs.Common.{ap, ◌∙◌}
+use Rattle.verdict.specs.Verdict.{numbered}
+use Rattle.rules.proofs.Tested.{tested_says, tested_there}
 use Rattle.rules.proofs.fault.judged.Goals as goal
 
-pub returns-then-clean : goal.returns-then-clean
-returns-then-clean c =
+pub returns-then-end-size-clause-number : goal.returns-then-end-size-clause-number
+returns-then-end-size-clause-number c =
     let x = c.args in
-    sym (clean_done x.size (faults x.sizes x.earlier x.block) x.at (c.clean.ensures c.if-clean.true)
-    (omega (arith, c.if-at-size.true, faults_long x.sizes x.earlier x.block)))
-
-pub first_refusal-requires : goal.first_refusal-requires
-first_refusal-requires c =
-    let x = c.args in
-    let first = begun (faults x.sizes x.earlier x.block) 15 x.size x.at (faults_long x.sizes x.earlier x.block) in
-    (c.rule_of.ensures, first.count, first.same)
+    ap numbered (c.test.ensures ∙ tested_there x.sizes x.earlier x.block x.at x.size c.if-end-size.true)
+    ∙ tested_says x.sizes x.earlier x.block x.at x.size

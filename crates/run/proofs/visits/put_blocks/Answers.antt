@@ -3,7 +3,7 @@ use Rattle.run.proofs.Turns.{row_start, row_text_long, row_state_long, is_turnab
 use Rattle.run.proofs.visits.put_blocks.Goals as goal
 
 pub loop-k-init : goal.loop-k-init
-loop-k-init c = row_start c.requires
+loop-k-init c = row_start c.requires c.label-label.ensures
 
 pub visit_and_put-next-requires : goal.visit_and_put-next-requires
 visit_and_put-next-requires c = is_turnable c.loop-k.invariant c.loop-k-test.true

@@ -1,49 +1,41 @@
--- `scan::located::blocks_of` meets its contract. The loop keeps that the first k entries are the records of the first k blocks. Assumes nothing.
-use mathlib.Core.Path.{refl, sym, ap, ◌∙◌, subst}
-use Prim.Native.Nat.{ℕ, ◌<◌}
-use native.Mathlib.Omega.{arith}
+-- `scan::located::blocks_of` meets its contract: the reader gives each block.
+use Rattle.std.proofs.Common.{◌≡◌, ◌<◌, ◌∙◌, sym, arith}
+use Rattle.std.specs.Prelude.{Result, Ok}
 use lib.ListN.{length-set}
-use Rattle.network.specs.Network.{block_count}
-use Rattle.network.specs.Check.{network_in, record_said}
-use Rattle.network.proofs.Values.{accepted_good}
-use Rattle.scan.proofs.Scanning.{sizes_are, count_is, is_next, is_read}
+use Rattle.verdict.specs.declared.Refusal.{Refusal}
+use Rattle.record.specs.declared.Block.{Block}
+use Rattle.network.specs.Check.{network_in}
+use Rattle.network.specs.Network.{block_of}
+use Rattle.scan.proofs.Scanning.{sizes_are, below_most, next_read}
 use Rattle.scan.proofs.Locating.{one_filled, is_located}
 use Rattle.scan.proofs.located.blocks_of.Goals as goal
-use Rattle.scan.proofs.located.blocks_of.Goals.{In-loop-k}
+use Rattle.scan.proofs.located.blocks_of.Goals.{After-record_at}
 
--- the loop goes on while there are blocks
-below : (c : In-loop-k) → c.loop-k.k < block_count (network_in c.args.words.now)
-below c = subst (λ (n : ℕ). c.loop-k.k < n) c.loop-k.invariant.2 c.loop-k-test.true
+module _ (c : After-record_at) where
+  abbrev inside : c.loop-k.k < c.args.opened.count
+  inside = omega (arith, c.loop-k-test.true, c.count-k-end.ensures)
 
-pub loop-k-init : goal.loop-k-init
-loop-k-init c =
-    let ws = c.args.words.now in
-    let count = c.count-count.ensures ∙ count_is ws c.requires.opens in
-    (c.requires, c.sizes-sizes.ensures ∙ sizes_are ws c.requires.opens, count, omega (arith, count, (accepted_good ws c.requires.accepted).few), refl, λ i l d. absurd (omega arith))
+  few : c.loop-k.k < 128
+  few = below_most c.args.words.now c.args.opened c.loop-k.k c.requires inside
+
+  read : c.record_at.result ≡ Ok (block_of (network_in c.args.words.now) c.loop-k.k)
+  read = next_read c.args.words.now c.args.opened c.loop-k.k c.requires inside c.record_at.result c.record_at.ensures
 
 pub returns-in_default : goal.returns-in_default
-returns-in_default c =
-    let v = c.loop-k.invariant in
-    let x = c.args in
-    absurd (is_read x.words.now x.o c.loop-k.k v.0.opens v.0.accepted (below (goal.at.returns-in_default c).In-loop-k)
-    (sym c.record_at.ensures ∙ ap record_said c.in_default.is))
+returns-in_default c = absurd (c.in_default.not-Ok _ (read (goal.at.returns-in_default c).After-record_at))
+
+pub bounds-blocks-k : goal.bounds-blocks-k
+bounds-blocks-k c = few (goal.at.bounds-blocks-k c).After-record_at
 
 pub loop-k-preserved : goal.loop-k-preserved
 loop-k-preserved c =
-    let v = c.loop-k.invariant in
     let x = c.args in
-    let k = c.loop-k.k in
-    let block = is_next x.words.now x.o k v.0.opens v.0.accepted (below (goal.at.loop-k-preserved c).In-loop-k) (sym c.record_at.ensures ∙ ap record_said c.in-Record.is) in (
-      v.0,
-      v.1,
-      v.2,
-      v.3,
-      length-set c.loop-k.blocks k _ ∙ v.4,
-      one_filled (network_in x.words.now) c.loop-k.blocks v.5 (omega (arith, v.3, v.4, c.loop-k-test.true))
-          (is_located (network_in x.words.now) k v.1 block c.start.ensures c.start-in-loop-k.ensures),
-    )
-
-pub returns : goal.returns
-returns c =
-    let v = c.loop-k.invariant in
-    λ i l d. v.5 i (omega (arith, l, v.2, c.loop-k-test.false)) d
+    let o = c.loop-k.invariant in
+    let net = network_in x.words.now in
+    let same : ◌≡◌ {A = Result Block Refusal} (Ok c.in-Ok.block) (Ok (block_of net c.loop-k.k)) = sym c.in-Ok.is ∙ read (goal.at.loop-k-preserved c).After-record_at in
+    let block : c.in-Ok.block ≡ block_of net c.loop-k.k = cc in
+    record {
+      entries = length-set c.loop-k.blocks c.loop-k.k _ ∙ o.entries;
+      filled = one_filled net c.loop-k.blocks o.filled (omega (arith, o.entries, few (goal.at.loop-k-preserved c).After-record_at))
+          (c.located.ensures ∙ is_located net c.loop-k.k (c.sizes.ensures ∙ sizes_are x.words.now c.requires.opens) block);
+    }
