@@ -3,9 +3,9 @@
 use mathlib.Core.Path.{◌≡◌, refl, sym, ap, ap₂, ◌∙◌}
 use mathlib.Core.Bool.{Bool}
 use mathlib.Core.List.{List, [], ◌∷◌, ◌++◌, append-nil, map}
-use Prim.Native.Nat.{ℕ, ◌+◌}
+use Prim.Native.Nat.{ℕ, ◌+◌, ◌<◌, ◌≤◌}
 use native.Mathlib.Omega.{arith}
-use lib.ListN.{length, take, drop, length-append, length-replicate}
+use lib.ListN.{length, get_or, take, drop, length-append, length-replicate}
 use Rattle.section.specs.Walk.{word, first_of, seek, left_over}
 use Rattle.verdict.specs.Verdict.{Verdict, then}
 use Rattle.section.specs.Section.{Section, section_earns, section_spells, section_rest, earned, meaning, end, judged_from, front, whole, lifted}
@@ -16,9 +16,12 @@ use Rattle.table.specs.Table.{total}
 use Rattle.network.specs.Network.{Network}
 use Rattle.network.specs.Check.{sections, network_in, network_end, front_checked}
 use Rattle.table.specs.declared.sizes.Sizes.{Sizes}
-use Rattle.network.proofs.Networks.{sizes_is}
+use Rattle.areas.specs.Areas.{sizes_of, areas_end}
+use Rattle.areas.proofs.Laws.{areas_few}
+use Rattle.network.proofs.Networks.{sizes_is, end_is}
 use Rattle.file.specs.Sound.{SpelledByIndex}
-use Rattle.file.specs.File.{File, table_words, network_part, image_section, run_section, after_network, file_sections, no_file, file_in, file_checked}
+use Rattle.file.specs.Steps.{rest_by}
+use Rattle.file.specs.File.{File, table_words, network_part, image_section, run_section, after_network, file_sections, no_file, file_in, file_checked, rest_in, last_end}
 
 -- a section whose words stand from an index on; the sections after the network, then nothing
 abbrev pub judged_at : Section File → File → List ℕ → ℕ → Verdict
@@ -152,3 +155,12 @@ spelled_by_index ws = record {
   image = image_is ws ∙ ap (λ (z : Sizes). take (total z) (drop (network_end ws + 1) ws)) (sizes_is ws);
   scans = run_is ws ∙ ap (λ (z : Sizes). word ws (network_end ws + 1 + total z + 1)) (sizes_is ws);
 }
+
+-- ---- the rest, of any words: words are below 65536
+pub end_near : (ws : List ℕ) → ((k : ℕ) → get_or ws k 0 < 65536) → network_end ws ≤ last_end
+end_near ws small = omega (arith, end_is ws, areas_few ws, small (areas_end ws))
+
+pub rest_said : (ws : List ℕ) → rest_by ws (network_end ws) (total (sizes_of ws)) ≡ rest_in ws
+rest_said ws =
+    let by = spelled_by_index ws in
+    λ i. record { image = network_end ws + 1; words = sym by.words i; scans = sym by.scans i }

@@ -5,6 +5,7 @@ use Rattle.std.specs.Prelude.{ℕ, ◌+◌, refl, Bool, List, [], ◌∷◌, ◌
 use Rattle.verdict.specs.Lists.{Words, Table}
 use Rattle.verdict.specs.Verdict.{Verdict, Said, said_by}
 use Rattle.file.specs.declared.checker.OpenedFile.{OpenedFile}
+use Rattle.file.specs.declared.checker.Rest.{Rest}
 use Rattle.section.specs.Walk.{first_of}
 use Rattle.section.specs.Section.{Section, meaning, whole, Part, lifted}
 use Rattle.table.specs.Table.{total}
@@ -68,6 +69,10 @@ unfoldable pub file_checked : Words → Bool → Verdict
 file_checked ws odd = whole file_sections no_file ws odd
 
 -- ---- for the calls
+
+-- what the words spell after their network: where the image starts, how many words it has, and the scans
+abbrev pub rest_in : Words → Rest
+rest_in ws = record { image = network_end ws + 1; words = table_words (file_in ws); scans = (file_in ws).run }
 
 -- what an opened file has, which is what the words spell
 abbrev pub opened_file_value : Words → OpenedFile

@@ -11,6 +11,7 @@ use Rattle.table.specs.Table.{total}
 use Rattle.network.specs.declared.checker.Opened.{Opened}
 use Rattle.network.specs.Steps.{front_tested}
 use Rattle.file.specs.declared.checker.OpenedFile.{OpenedFile}
+use Rattle.file.specs.declared.checker.Rest.{Rest}
 use Rattle.file.specs.File.{most_scans}
 
 abbrev pub count_test : Bool → Result Unit Fault
@@ -34,6 +35,10 @@ tail_tested ws at table odd =
     and_then (image_tested ws at table) (λ (_ : Unit).
     and_then (run_tested ws (at + 1 + table)) (λ (_ : Unit).
     cond (ltb (at + 1 + table + 2) (length ws) || odd) (Err (refusal LeftOver (at + 1 + table + 2 + 1))) (Ok tt)))
+
+-- what is spelled after a network that ends before an index, where the table has so many words
+abbrev pub rest_by : Words → ℕ → ℕ → Rest
+rest_by ws at table = record { image = at + 1; words = table; scans = word ws (at + 1 + table + 1) }
 
 -- what stands after an opened network
 abbrev pub file_by : Words → Opened → OpenedFile

@@ -1,8 +1,8 @@
 // The verdict on a whole file: the network at its front, then the image, then the run, each word when it is reached.
 ghost use Rattle.std.specs.Prelude.{◌≡◌, ◌≤◌, ◌+◌};
 ghost use Rattle.verdict.specs.Verdict.{numbered};
-ghost use Rattle.file.specs.File.{opened_file, last_end, largest_table};
-ghost use Rattle.file.specs.Steps.{image_tested, run_tested, tail_tested, file_tested};
+ghost use Rattle.file.specs.File.{rest_in, opened_file, last_end, largest_table};
+ghost use Rattle.file.specs.Steps.{image_tested, run_tested, tail_tested, rest_by, file_tested};
 
 use network::Opened;
 use section::{count, counted, reach, word};
@@ -13,6 +13,15 @@ use verdict::{Fault, Refusal};
 #[derive(Clone, Copy, Debug, PartialEq, Eq)]
 pub struct OpenedFile {
     pub network: Opened,
+    pub image: usize,
+    pub words: usize,
+    pub scans: u16,
+}
+
+/// What words spell after their network: the index of the image's first word, how many words the image has, and the
+/// scans.
+#[derive(Clone, Copy, Debug, PartialEq, Eq)]
+pub struct Rest {
     pub image: usize,
     pub words: usize,
     pub scans: u16,
@@ -63,6 +72,29 @@ fn tail(words: &[u16], at: usize, total: usize, odd: bool) -> Result<(), Refusal
     Ok(())
 }
 
+// What is spelled after a network that ends before an index, where the table has so many words.
+fn rest_at(words: &[u16], at: usize, total: usize) -> Rest
+    requires { (at ≤ last_end) × (total ≤ largest_table) }
+    ensures { result ≡ rest_by words.now at total }
+{
+    let image = at + 1;
+    let scans = word(words, image + total + 1);
+    Rest {
+        image,
+        words: total,
+        scans,
+    }
+}
+
+/// What words spell after their network, refused words too.
+#[tactic(auto, using(crate::proofs::Files::end_near, crate::proofs::Files::rest_said))]
+pub fn rest_in(words: &[u16]) -> Rest
+    ensures { result ≡ rest_in words.now }
+{
+    let total = table::total(network::sizes_in(words)) as usize;
+    rest_at(words, network::end(words), total)
+}
+
 // The network, and what stands after it. Apart from `check` and its contract in numbers, so that each `?` is proved
 // once.
 #[tactic(auto, using(crate::proofs::Steps::near))]
@@ -73,18 +105,17 @@ fn test(words: &[u16], odd: bool) -> Result<OpenedFile, Refusal>
     let next = network.next();
     let total = table::total(network.sizes()) as usize;
     tail(words, next, total, odd)?;
-    let image = next + 1;
-    let scans = word(words, image + total + 1);
+    let rest = rest_at(words, next, total);
     Ok(OpenedFile {
         network,
-        image,
-        words: total,
-        scans,
+        image: rest.image,
+        words: rest.words,
+        scans: rest.scans,
     })
 }
 
-/// A file of these words, after which an odd byte may stand. Where refused words would have their image and scans,
-/// `network::end`, `network::sizes_in` and `section::word` say.
+/// A file of these words, after which an odd byte may stand. What refused words spell, `network::sizes_in`,
+/// `network::block_count`, `network::end` and `rest_in` say.
 #[tactic(auto, using(crate::proofs::Steps::file_said))]
 pub fn check(words: &[u16], odd: bool) -> Result<OpenedFile, Refusal>
     ensures { numbered result ≡ opened_file words.now odd }

@@ -99,7 +99,7 @@ plan_put ws o old = steps_put o.sizes (planned_blocks ws o (length old)) old
 
 -- ---- a network's plan, in a list with room for the steps of 128 blocks, which had no steps
 abbrev pub no_step : Step
-no_step = record { work = work.Rotate 0 0; n = 0; inputs = Fixed false ∷ Fixed false ∷ Fixed false ∷ []; coils = None ∷ None ∷ None ∷ [] }
+no_step = record { work = work.Unknown; n = 0; inputs = Fixed false ∷ Fixed false ∷ Fixed false ∷ []; coils = None ∷ None ∷ None ∷ [] }
 
 -- what stands where a list has no step
 abbrev pub absent : Step

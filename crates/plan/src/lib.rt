@@ -50,10 +50,7 @@ pub struct Step {
 
 /// A step that is of no block.
 pub const NO_STEP: Step = Step {
-    work: Work::Rotate {
-        source: 0,
-        destination: 0,
-    },
+    work: Work::Unknown,
     n: 0,
     inputs: [Look::Fixed(false); 3],
     coils: [None; 3],

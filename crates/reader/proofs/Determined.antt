@@ -15,6 +15,7 @@ use Rattle.verdict.specs.Promise.{Decides}
 use Rattle.verdict.proofs.Said.{numbered_once}
 use Rattle.reader.proofs.record_of.Reads as record_of_reads
 use Rattle.reader.specs.contracts.Reader.open as opener
+use Rattle.reader.specs.contracts.Reader.words as words
 use Rattle.reader.specs.contracts.Reader.opened as opened
 use Rattle.reader.specs.contracts.Reader.record as block
 
@@ -34,6 +35,9 @@ module _ {M : Type 1} {𝓤 : Ura M} (𝓛 : Logic 𝓤) (mem : Memory → SProp
 
   pub reader_open : Equates opener.ended (opener.clauses 𝓛 mem run)
   reader_open κs a g x y s t = given (λ p q. λ i. record { words = (p.holds ∙ sym q.holds) i; found = numbered_once x.found y.found (p.knows ∙ sym q.knows) i })
+
+  pub reader_words : Equates words.ended (words.clauses 𝓛 mem run)
+  reader_words κs a g x y s t = given (λ p q. p ∙ sym q)
 
   pub reader_opened : Equates opened.ended (opened.clauses 𝓛 mem run)
   reader_opened κs a g x y s t = given (λ p q. p ∙ sym q)

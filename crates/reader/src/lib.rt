@@ -30,6 +30,14 @@ impl<'a> Reader<'a> {
         }
     }
 
+    /// The words that it was opened on: what refused ones spell, `network::sizes_in`, `network::block_count` and
+    /// `network::end` say.
+    pub fn words(self) -> &'a [u16]
+        ensures { result ≡ self.entry.words }
+    {
+        self.words
+    }
+
     /// What the opening found: the sizes and the count, or the checker's refusal.
     pub fn opened(self) -> Result<Opened, Refusal>
         ensures { result ≡ self.entry.found }

@@ -10,7 +10,7 @@ pub(crate) struct Refused(pub Refusal);
 
 impl fmt::Display for Refused {
     fn fmt<W: fmt::Write>(&self, f: &mut fmt::Formatter<W>) -> fmt::Result {
-        write!(f, " refused {} {}", self.0.fault.number(), self.0.place)
+        write!(f, " {}", self.0)
     }
 }
 

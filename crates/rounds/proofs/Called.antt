@@ -7,7 +7,9 @@ use mathlib.Core.Option.{Option, none, some}
 use Prim.Native.Nat.{ℕ, zero, suc, ◌+◌, ◌≤◌, ◌<◌}
 use native.Mathlib.Omega.{arith}
 use lib.ListN.{length, get_or, drop, length-map, get_or-append}
-use Rattle.verdict.specs.Verdict.{Verdict, Said, numbered}
+use Rattle.std.specs.Prelude.{Ok, Err}
+use Rattle.verdict.specs.Verdict.{Verdict, Said, numbered, said_by}
+use Rattle.verdict.proofs.Said.{says}
 use Rattle.verdict.specs.Promise.{LeavesTwo}
 use Rattle.network.specs.Network.{Network, block_of, block_count}
 use Rattle.network.specs.Check.{network_in}
@@ -90,8 +92,14 @@ demand_3_packed ws i m lent left lists numbers answers K S kept j l =
     as_read (scanning ws m lent (λ k. length (lists k)) (numbers_taken ws i m lent left lists numbers answers K) (omega (arith, c))) S
     (λ s. reading (network_in ws) i (left s) (map unpacked (numbers s))) (reads_numbers ws i m lent left lists numbers answers K S.there kept) j l
 
--- the contract that `PackedCalls` speaks of is the one that the check reads off the source
+-- the contract that `PackedCalls` speaks of is the one that the check reads off the source: each gives the other
 pub as_the_source_has_it : (κs : _) (a : _) (r : _) (s : _) → packed_reads.Post κs a r s
     → LeavesTwo (scan_verdict a.0.now (length a.1.0.now) (length a.1.1.0.now)) (scan_table a.0.now a.1.0.now (length a.1.1.0.now)) (scan_packed a.0.now a.1.0.now a.1.1.0.now)
     (numbered r).verdict s.1.0.now s.1.1.0.now
 as_the_source_has_it κs a r s p = record { answers = ap (λ (v : Said Unit). v.verdict) p.0; leaves_one = p.1.0; leaves_other = p.1.1 }
+
+pub has_the_source : (κs : _) (a : _) (r : _) (s : _) → let post : Type 0 = packed_reads.Post κs a r s in
+    LeavesTwo (scan_verdict a.0.now (length a.1.0.now) (length a.1.1.0.now)) (scan_table a.0.now a.1.0.now (length a.1.1.0.now)) (scan_packed a.0.now a.1.0.now a.1.1.0.now)
+    (numbered r).verdict s.1.0.now s.1.1.0.now → post
+has_the_source κs a (Ok y) s p = (ap (λ (v : Verdict). said_by v tt) p.answers, (p.leaves_one, p.leaves_other))
+has_the_source κs a (Err r) s p = (says r (scan_verdict a.0.now (length a.1.0.now) (length a.1.1.0.now)) tt p.answers, (p.leaves_one, p.leaves_other))

@@ -1,7 +1,7 @@
 // Why words, or a call, are refused, and at which word.
 #![tactic(auto)]
 
-ghost use Rattle.std.specs.Prelude.{◌≡◌};
+ghost use Rattle.std.specs.Prelude.{◌≡◌, ◌++◌, Some, codes, decimal};
 ghost use Rattle.verdict.specs.Verdict.{number_of, refusal};
 
 use std::fmt;
@@ -75,6 +75,8 @@ impl Fault {
 
 /// As programs print it: by its number and its place.
 impl fmt::Display for Refusal {
+    ghost output = { λ r. Some (codes "refused " ++ (decimal (number_of r.fault) ++ (codes " " ++ decimal r.place))) };
+
     fn fmt<W: fmt::Write>(&self, f: &mut fmt::Formatter<W>) -> fmt::Result {
         write!(f, "refused {} {}", self.fault.number(), self.place)
     }
